@@ -1,0 +1,95 @@
+//! The text of a call, composed whole before it is written.
+
+ghost use Rattle.std.specs.Prelude.{◌≡◌, ℕ, ◌≤◌, List, Some, IfOk, map, string_bytes};
+ghost use Rattle.rz_app.specs.Command.{Kernel, command};
+ghost use Rattle.rz_app.specs.Answer.{text_of, status_of, cannot_read};
+ghost use Rattle.rz_app.specs.Fault.{Composes};
+
+use crate::command::{Request, parse};
+use rz_io::{Files, ReadFault};
+use rz_kernel::{KernelAnswer, kernel};
+use rz_rules::{Bytes, OutOfMemory};
+use std::alloc::Global;
+
+/// The status where all went well.
+const DONE: u8 = 0;
+
+/// The status where something was refused.
+const REFUSED: u8 = 1;
+
+/// The status where the words are no command.
+const NO_COMMAND: u8 = 2;
+
+/// The status where a file can't be read.
+const CANNOT_READ: u8 = 3;
+
+/// A text, and the status of a call that writes it whole.
+#[derive(Drop)]
+pub struct Page {
+    pub text: Bytes,
+    pub status: u8,
+}
+
+const USAGE: &str =
+    "usage: rzk check|json|derive FILE.. | kernel FILE | tope SEQUENT | script FILE | sample N\n";
+
+/// What the words ask for, from the files that they name.
+pub fn compose<F: Files>(
+    alloc: Global,
+    words: &[String],
+    files: &mut F,
+) -> Result<Page, OutOfMemory>
+    ensures composed { IfOk result (λ page. Composes (command (map string_bytes words.now))
+        (F.told files.old) (F.count files.old) (F.count files.new) page.text page.status) }
+    ensures told { (name : List ℕ) → F.told files.new name ≡ F.told files.old name }
+    ensures never_falls { F.count files.old ≤ F.count files.new }
+{
+    match parse(words) {
+        Some(Request::Kernel(name)) => kernel_page(alloc, name, files),
+        None => page_of(alloc, USAGE, NO_COMMAND),
+    }
+}
+
+/// What the kernel answers on a file, or that the file can't be read.
+fn kernel_page<F: Files>(alloc: Global, name: &str, files: &mut F) -> Result<Page, OutOfMemory>
+    ensures composed { IfOk result (λ page. Composes (Some (Kernel name.now))
+        (F.told files.old) (F.count files.old) (F.count files.new) page.text page.status) }
+    ensures told { (other : List ℕ) → F.told files.new other ≡ F.told files.old other }
+    ensures never_falls { F.count files.old ≤ F.count files.new }
+{
+    match files.read(name) {
+        Ok(bytes) => answer_page(alloc, kernel(alloc, bytes.as_slice())?),
+        Err(ReadFault::OutOfMemory) => Err(OutOfMemory),
+        Err(ReadFault::Missing | ReadFault::Failed) => cannot_read_page(alloc, name),
+    }
+}
+
+/// The kernel's answer as a line.
+fn answer_page(alloc: Global, answer: KernelAnswer) -> Result<Page, OutOfMemory>
+    ensures text { IfOk result (λ page. page.text ≡ text_of answer) }
+    ensures status { IfOk result (λ page. page.status ≡ status_of answer) }
+{
+    let (text, status) = match answer {
+        KernelAnswer::Yes(claims) => (format!(in alloc; "yes {claims}\n")?, DONE),
+        KernelAnswer::Malformed(line) => (format!(in alloc; "malformed {line}\n")?, REFUSED),
+        KernelAnswer::BadRow(line) => (format!(in alloc; "badrow {line}\n")?, REFUSED),
+    };
+    page_of(alloc, text.as_str(), status)
+}
+
+/// The line on a file that can't be read.
+fn cannot_read_page(alloc: Global, name: &str) -> Result<Page, OutOfMemory>
+    ensures text { IfOk result (λ page. page.text ≡ cannot_read name.now) }
+    ensures status { IfOk result (λ page. page.status ≡ 3) }
+{
+    let text = format!(in alloc; "cannot read {name}\n")?;
+    page_of(alloc, text.as_str(), CANNOT_READ)
+}
+
+/// The page of this text.
+fn page_of(alloc: Global, text: &str, status: u8) -> Result<Page, OutOfMemory>
+    ensures { IfOk result (λ page. page ≡ record { text = text.now; status = status }) }
+{
+    let text = Bytes::from_slice(alloc, text.as_bytes())?;
+    Ok(Page { text, status })
+}

@@ -1,0 +1,111 @@
+//! A store and a sink in memory that never fail.
+
+ghost use Rattle.std.specs.Prelude.{◌≡◌, ◌↔◌, ◌<◌, [], ◌++◌, Some, length, IfOk, OnOk, OnErr, IsErrOf, IsOkUnless};
+ghost use Rattle.rz_io.specs.Device.{Absent, Present, told_by};
+
+use crate::listed::{extended, find};
+use crate::{Files, ReadFault, Sink, WriteFault};
+use rz_rules::{Bytes, Items, Name};
+use std::alloc::Global;
+use std::marker::Model;
+
+/// A store that never fails, seen as the list of its files. The first of a name counts.
+#[derive(Drop)]
+pub struct GoodFiles {
+    alloc: Global,
+    files: Items<(Name, Bytes)>,
+}
+
+impl Model for GoodFiles {
+    ghost use Rattle.std.specs.Prelude.{List, ℕ};
+
+    ghost Value = { List (List ℕ × List ℕ) };
+
+    ghost view = { λ store. store.files };
+}
+
+impl GoodFiles {
+    /// A store of these files, whose reads allocate here.
+    pub fn new(alloc: Global, files: Items<(Name, Bytes)>) -> Self
+        ensures { result ≡ files }
+    {
+        GoodFiles { alloc, files }
+    }
+}
+
+impl Files for GoodFiles {
+    ghost told = { told_by };
+
+    ghost count = { λ _. 0 };
+
+    fn read(&mut self, name: &str) -> Result<Bytes, ReadFault>
+        ensures bytes { IfOk result (λ bytes. told_by self.old name.now ≡ Present bytes) }
+        ensures missing { IsErrOf result ReadFault.Missing ↔ (told_by self.old name.now ≡ Absent) }
+        ensures never_fails { IsErrOf result ReadFault.Failed → ⊥ }
+        ensures kept { self.new ≡ self.old }
+    {
+        match find(self.files.as_slice(), name) {
+            Some(bytes) => Ok(bytes.copy(self.alloc)?),
+            None => Err(ReadFault::Missing),
+        }
+    }
+
+    fn faults(&self) -> u64 {
+        0
+    }
+}
+
+/// A sink that never fails, seen as the bytes that it took.
+#[derive(Drop)]
+pub struct GoodSink {
+    alloc: Global,
+    bytes: Bytes,
+}
+
+impl Model for GoodSink {
+    ghost use Rattle.std.specs.Prelude.{List, ℕ};
+
+    ghost Value = { List ℕ };
+
+    ghost view = { λ sink. sink.bytes };
+}
+
+impl GoodSink {
+    /// A sink that has taken nothing, and keeps its bytes here.
+    pub fn new(alloc: Global) -> Self
+        ensures { result ≡ [] }
+    {
+        GoodSink {
+            alloc,
+            bytes: Bytes::new(alloc),
+        }
+    }
+
+    /// All bytes that it took.
+    pub fn taken(&self) -> &Bytes
+        ensures { result.now ≡ self.now }
+    {
+        &self.bytes
+    }
+}
+
+impl Sink for GoodSink {
+    ghost taken = { λ sink. Some sink };
+
+    ghost count = { λ _. 0 };
+
+    fn write(&mut self, piece: &[u8]) -> Result<u64, WriteFault>
+        requires { 0 < length piece.now }
+        ensures whole { IfOk result (λ n. n ≡ length piece.now) }
+        ensures ok { OnOk result (self.new ≡ self.old ++ piece.now) }
+        ensures err { OnErr result (self.new ≡ self.old) }
+        ensures only_memory { IsOkUnless result WriteFault.OutOfMemory }
+    {
+        self.bytes = extended(self.alloc, &self.bytes, piece)?;
+        Ok(piece.len() as u64)
+    }
+
+    fn faults(&self) -> u64 {
+        0
+    }
+}

@@ -1,0 +1,252 @@
+ghost use Rattle.std.specs.Prelude.{◌<◌, None};
+
+use crate::disk::{read_whole, zeros};
+use crate::{
+    DiskFiles, Files, GoodFiles, GoodSink, MemoryFiles, MemorySink, ReadFault, Sink, StdSink,
+    WriteFault, write_all,
+};
+use rz_rules::{Bytes, Items, Name, Numbers, OutOfMemory};
+use std::alloc::Global;
+use std::fmt::Display;
+use std::io::{ErrorKind, Read};
+use std::test::Fail;
+use std::{env, fs, io, process};
+
+/// Whether a read of this name gives this answer.
+fn reads<F: Files>(store: &mut F, name: &str, want: Result<&[u8], ReadFault>) -> bool {
+    match (store.read(name), want) {
+        (Ok(bytes), Ok(want)) => bytes.as_slice() == want,
+        (Err(fault), Err(want)) => fault == want,
+        _ => false,
+    }
+}
+
+/// A file `a` that says one, an empty file `b`, and a second `a` that doesn't count.
+fn three_files(alloc: Global) -> Result<Items<(Name, Bytes)>, OutOfMemory> {
+    let mut files = Items::new(alloc);
+    for (name, text) in [("a", "one"), ("b", ""), ("a", "two")] {
+        let name = Name::from_text(alloc, name)?;
+        let bytes = Bytes::from_slice(alloc, text.as_bytes())?;
+        files.push((name, bytes))?;
+    }
+    Ok(files)
+}
+
+#[test]
+fn a_store_answers_what_it_tells(rt: HostRuntime) -> Result<(), Fail> {
+    let alloc = rt.alloc();
+    let mut good = GoodFiles::new(alloc, three_files(alloc)?);
+    assert!(rt; reads(&mut good, "a", Ok(b"one")));
+    assert!(rt; reads(&mut good, "b", Ok(b"")));
+    assert!(rt; reads(&mut good, "c", Err(ReadFault::Missing)));
+    assert_eq!(rt; good.faults(), 0);
+
+    let failed = Err(ReadFault::Failed);
+    let missing = Err(ReadFault::Missing);
+    let one: Result<&[u8], ReadFault> = Ok(b"one");
+    // The calls that fail, what three reads of a, c and a answer, and the faults then.
+    let rows: [(&[u64], [Result<&[u8], ReadFault>; 3], u64); 5] = [
+        (&[], [one, missing, one], 0),
+        (&[0], [failed, missing, one], 1),
+        (&[1, 3], [one, failed, one], 1),
+        (&[2, 0, 2], [failed, missing, failed], 2),
+        (&[0, 1, 2], [failed, failed, failed], 3),
+    ];
+    for (fails, [first, second, third], faults) in rows {
+        let fails = Numbers::from_slice(alloc, fails)?;
+        let mut store = MemoryFiles::new(alloc, three_files(alloc)?, fails);
+        assert!(rt; reads(&mut store, "a", first));
+        assert!(rt; reads(&mut store, "c", second));
+        assert!(rt; reads(&mut store, "a", third));
+        assert_eq!(rt; store.faults(), faults);
+    }
+    Ok(())
+}
+
+const TEXT: &[u8] = b"yes 1\n";
+
+/// Whether a text that is written ends with this front taken, and with the one answer for that.
+fn leaves(alloc: Global, chunk: u64, fails: &[u64], front: &[u8]) -> Result<bool, OutOfMemory>
+    requires { 0 < chunk }
+{
+    let mut out = MemorySink::new(alloc, chunk, Numbers::from_slice(alloc, fails)?);
+    let answer = write_all(&mut out, &Bytes::from_slice(alloc, TEXT)?);
+    let all = front == TEXT;
+    let wanted = if all { Ok(()) } else { Err(WriteFault::Failed) };
+    let faults = if all { 0 } else { 1 };
+    Ok(answer == wanted && out.taken().as_slice() == front && out.faults() == faults)
+}
+
+#[test]
+fn a_sink_takes_chunks_up_to_the_first_failure(rt: HostRuntime) -> Result<(), Fail> {
+    let alloc = rt.alloc();
+    for call in 0..7u64 {
+        assert!(rt;
+            leaves(alloc, 1, &[call], &TEXT[..call as usize])?,
+            "at {call}"
+        );
+    }
+    assert!(rt; leaves(alloc, 1, &[5, 2], &TEXT[..2])?);
+    assert!(rt; leaves(alloc, 4, &[1], &TEXT[..4])?);
+    assert!(rt; leaves(alloc, 8, &[0], &TEXT[..0])?);
+    assert!(rt; leaves(alloc, 8, &[1], TEXT)?);
+    assert!(rt; leaves(alloc, 8, &[], TEXT)?);
+    Ok(())
+}
+
+#[test]
+fn a_good_sink_takes_all(rt: HostRuntime) -> Result<(), Fail> {
+    let alloc = rt.alloc();
+    let mut good = GoodSink::new(alloc);
+    write_all(&mut good, &Bytes::from_slice(alloc, b"yes")?)?;
+    write_all(&mut good, &Bytes::new(alloc))?;
+    write_all(&mut good, &Bytes::from_slice(alloc, b" 1\n")?)?;
+    assert_eq!(rt; good.taken().as_slice(), TEXT);
+    assert_eq!(rt; good.faults(), 0);
+    Ok(())
+}
+
+/// A sink that takes two bytes at most, and keeps how many each write offered.
+#[derive(Drop)]
+struct Offers {
+    lengths: Numbers,
+}
+
+impl Sink for Offers {
+    ghost taken = { λ _. None };
+
+    ghost count = { λ _. 0 };
+
+    fn write(&mut self, piece: &[u8]) -> Result<u64, WriteFault> {
+        let offered = piece.len() as u64;
+        self.lengths.push(offered)?;
+        Ok(offered.min(2))
+    }
+
+    fn faults(&self) -> u64 {
+        0
+    }
+}
+
+#[test]
+fn each_write_offers_all_that_is_left(rt: HostRuntime) -> Result<(), Fail> {
+    let alloc = rt.alloc();
+    let mut out = Offers {
+        lengths: Numbers::new(alloc),
+    };
+    write_all(&mut out, &Bytes::from_slice(alloc, b"seven..")?)?;
+    assert_eq!(rt; out.lengths.as_slice(), [7, 5, 3, 1].as_slice());
+    assert_eq!(rt; out.faults(), 0);
+    Ok(())
+}
+
+/// A reader that gives one byte a turn, and fails or ends after some.
+#[derive(Drop)]
+struct Slow {
+    left: u64,
+    fails: bool,
+}
+
+impl Read for Slow {
+    fn read(&mut self, buffer: &mut [u8]) -> io::Result<usize> {
+        if self.left == 0 && self.fails {
+            return Err(io::Error::from(ErrorKind::BrokenPipe));
+        }
+        if self.left == 0 || buffer.is_empty() {
+            return Ok(0);
+        }
+        self.left -= 1;
+        buffer[0] = b'x';
+        Ok(1)
+    }
+}
+
+#[test]
+fn the_disk_gives_a_whole_file_or_fails(rt: HostRuntime) -> Result<(), Fail> {
+    let alloc = rt.alloc();
+    let folder = env::temp_dir(&rt)?;
+    let name = format!(in alloc;
+        "{}/rz_io_{}",
+        folder.to_string_lossy(),
+        process::id(rt.process())
+    )?;
+    // More than one turn takes.
+    let text = zeros(alloc, 70_000)?;
+    fs::write(&rt, name.as_str(), text.as_slice())?;
+
+    let mut disk = DiskFiles::new(&rt);
+    let whole = reads(&mut disk, name.as_str(), Ok(text.as_slice()));
+    fs::remove_file(&rt, name.as_str())?;
+    assert!(rt; whole);
+    assert_eq!(rt; disk.faults(), 0);
+
+    assert!(rt; reads(&mut disk, name.as_str(), Err(ReadFault::Failed)));
+    assert!(rt; reads(&mut disk, folder.to_string_lossy(), Err(ReadFault::Failed)));
+    assert_eq!(rt; disk.faults(), 2);
+
+    let ended = read_whole(
+        alloc,
+        &mut Slow {
+            left: 3,
+            fails: false,
+        },
+    )?;
+    assert_eq!(rt; ended.as_slice(), b"xxx".as_slice());
+    let broken = read_whole(
+        alloc,
+        &mut Slow {
+            left: 3,
+            fails: true,
+        },
+    );
+    assert_eq!(rt; broken.err().map(|e| e.kind()), Some(ErrorKind::BrokenPipe));
+    Ok(())
+}
+
+/// An output that takes nothing, or fails so.
+#[derive(Drop)]
+struct Stuck {
+    kind: Option<ErrorKind>,
+}
+
+impl Print for Stuck {
+    fn print<D: Display + Drop>(&self, _value: D) -> io::Result<()> {
+        Ok(())
+    }
+
+    fn println<D: Display + Drop>(&self, _value: D) -> io::Result<()> {
+        Ok(())
+    }
+
+    fn write_all(&self, _bytes: &[u8]) -> io::Result<()> {
+        Ok(())
+    }
+
+    fn write_some(&self, _bytes: &[u8]) -> io::Result<usize> {
+        match self.kind {
+            Some(kind) => Err(io::Error::from(kind)),
+            None => Ok(0),
+        }
+    }
+}
+
+#[test]
+fn the_output_counts_its_faults(rt: HostRuntime) -> Result<(), Fail> {
+    let alloc = rt.alloc();
+    let text = Bytes::from_slice(alloc, b"yes 1\n")?;
+    let mut out = StdSink::new(&rt);
+    write_all(&mut out, &text)?;
+    assert_eq!(rt; out.faults(), 0);
+
+    let rows = [
+        (None, WriteFault::Failed, 1),
+        (Some(ErrorKind::BrokenPipe), WriteFault::Failed, 1),
+        (Some(ErrorKind::OutOfMemory), WriteFault::OutOfMemory, 0),
+    ];
+    for (kind, fault, faults) in rows {
+        let mut stuck = StdSink::new(Stuck { kind });
+        assert_eq!(rt; write_all(&mut stuck, &text), Err(fault));
+        assert_eq!(rt; stuck.faults(), faults);
+    }
+    Ok(())
+}

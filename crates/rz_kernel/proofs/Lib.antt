@@ -1,0 +1,11 @@
+pub mod Decimals
+pub mod Trees
+pub mod Sorts
+pub mod Adding
+pub mod Scopes
+pub mod Walks
+pub mod Instances
+pub mod Grammar
+pub mod Following
+pub mod Texts
+pub mod Runs

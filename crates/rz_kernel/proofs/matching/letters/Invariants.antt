@@ -1,0 +1,14 @@
+use Rattle.std.proofs.Common.{ℕ, length, drop, []}
+use Rattle.std.specs.Prelude.{◌↔◌}
+use Rattle.rz_rules.specs.Tree.{Tree}
+use Rattle.rz_kernel.specs.Kept.{trees_in}
+use Rattle.rz_kernel.specs.Matching.{Means, Spells, IsWalk}
+use Rattle.rz_kernel.proofs.matching.letters.Given as goal
+
+-- what is left to show is what was to be shown
+abbrev pub invariant-loop-symbol : goal.invariant-loop-symbol
+invariant-loop-symbol l = record {
+  walk : IsWalk (length l.nodes) l.walk.expected.items l.walk.rest.now l.walk.found.items;
+  same : (letters : ℕ → Tree) → Means (trees_in l.nodes) (drop l.symbol-index l.text) letters l.walk.expected.items l.walk.rest.now l.walk.found.items
+      ↔ Spells (trees_in l.nodes) l.text letters [] l.judgments;
+}

@@ -1,0 +1,9 @@
+pub mod Form
+pub mod Kids
+pub mod Tree
+pub mod Tope
+pub mod Judgment
+pub mod Table
+pub mod Row
+pub mod Derivation
+pub mod File

@@ -1,0 +1,20 @@
+//! The plain types of derivations, and the definitions that every contract speaks in.
+#![tactic(auto)]
+
+mod judgments;
+mod kinds;
+mod lists;
+mod memory;
+mod nodes;
+mod rows;
+mod steps;
+mod words;
+
+pub use judgments::{Judgment, Line};
+pub use kinds::{Form, Head, Kind, Sort};
+pub use lists::{Bytes, Items, Name, Numbers, Places, Values};
+pub use memory::OutOfMemory;
+pub use nodes::{Kids, Node};
+pub use rows::{Row, Symbol};
+pub use steps::Steps;
+pub use words::Worded;
