@@ -6,11 +6,12 @@ use Rattle.std.proofs.lemmas.List.Elements.{All-head, All-tail, All-map}
 use Rattle.rz_rules.specs.declared.nodes.Node.{Node}
 use Rattle.rz_rules.specs.declared.judgments.Judgment.{Judgment}
 use Rattle.rz_rules.specs.Form.{form}
-use Rattle.rz_rules.specs.Tree.{Tree, At, trees_of, blank, tree_at, tree_over}
+use Rattle.rz_rules.specs.Tree.{Tree, At, trees_of, blank, tree_at, tree_over, trees_in}
 use Rattle.rz_rules.specs.Judgment.{head_of, ids_of, statement}
 use Rattle.rz_rules.specs.File.{Known, NodeFits, NodeItem, after}
-use Rattle.rz_kernel.specs.Kept.{trees_in, IsKeptNode, AreKept, KeepsTrees}
-use Rattle.rz_kernel.proofs.Trees.{trees_after_push, length-trees_in, trees_at_push, at_place, AreKept-push, tree_at_last}
+use Rattle.rz_kernel.specs.Kept.{IsKeptNode, AreKept, KeepsTrees}
+use Rattle.rz_rules.proofs.Trees.{trees_in_push, length-trees_in, trees_at_push, tree_at_last}
+use Rattle.rz_kernel.proofs.Keeping.{at_place, AreKept-push}
 use Rattle.rz_kernel.proofs.Sorts.{slice_get_is, sorts_there}
 
 -- a node that is there already
@@ -26,7 +27,7 @@ KeepsTrees-refl ns = record { longer = omega arith; same = λ ids h. refl }
 pub KeepsTrees-push : (ns : List Node) (n : Node) → KeepsTrees ns (ns ++ n ∷ [])
 KeepsTrees-push ns n = record {
   longer = omega (arith, length_push ns n);
-  same = λ ids h. ap (λ ts. map (tree_at ts) ids) (trees_after_push [] ns n)
+  same = λ ids h. ap (λ ts. map (tree_at ts) ids) (trees_in_push ns n)
       ∙ trees_at_push (trees_in ns) (tree_over (trees_in ns) n) ids (subst (λ (k : ℕ). All (λ id. id < k) ids) (sym (length-trees_in ns)) h);
 }
 
@@ -40,7 +41,7 @@ AreKept-new ns n kept fine none = AreKept-push ns n kept fine (not_there ns n no
 
 pub new_tree : (ns : List Node) (n : Node) (i : ℕ) → length ns ≡ i → tree_at (trees_in (ns ++ n ∷ [])) i ≡ tree_over (trees_in ns) n
 new_tree ns n i e =
-    ap (λ ts. tree_at ts i) (trees_after_push [] ns n) ∙ tree_at_last (trees_in ns) (tree_over (trees_in ns) n) i (length-trees_in ns ∙ e)
+    ap (λ ts. tree_at ts i) (trees_in_push ns n) ∙ tree_at_last (trees_in ns) (tree_over (trees_in ns) n) i (length-trees_in ns ∙ e)
 
 -- the trees of ids of the file are those of their places
 pub placed_trees : (ts : List Tree) (places ids : List ℕ) → All (λ id. id < length places) ids

@@ -7,12 +7,12 @@ use Rattle.rz_rules.specs.declared.rows.Row.{Row}
 use Rattle.rz_rules.specs.declared.judgments.Judgment.{Judgment}
 use Rattle.rz_rules.specs.declared.judgments.Line.{Line}
 use Rattle.rz_rules.specs.Form.{parts_of_head}
-use Rattle.rz_rules.specs.Tree.{Tree, tree_at}
+use Rattle.rz_rules.specs.Tree.{Tree, tree_at, trees_in}
 use Rattle.rz_rules.specs.Judgment.{Statement, head_of, ids_of, statement}
 use Rattle.rz_rules.specs.Derivation.{Follows, IsScoped}
 use Rattle.rz_rules.specs.File.{StepFits, StepItem, after}
 use Rattle.rz_kernel.specs.declared.kept.Kept.{Kept}
-use Rattle.rz_kernel.specs.Kept.{known_of, trees_in, IsKept}
+use Rattle.rz_kernel.specs.Kept.{known_of, IsKept}
 use Rattle.rz_kernel.specs.Matching.{FollowsFrom}
 use Rattle.rz_kernel.proofs.Sorts.{slice_get_is, slice_get-map, sorts_there}
 use Rattle.rz_kernel.proofs.Adding.{placed_trees, places_low}

@@ -13,13 +13,13 @@ use Rattle.rz_rules.specs.declared.nodes.Node.{Node}
 use Rattle.rz_rules.specs.declared.judgments.Line.{Line}
 use Rattle.rz_rules.specs.Form.{form, word_of_kind, word_of_head, all_kinds, all_heads, kinds_found_again, heads_found_again, parts_of_head}
 use Rattle.rz_rules.specs.Table.{word_of_row, all_rows, rows_found_again}
-use Rattle.rz_rules.specs.Tree.{tree_at}
+use Rattle.rz_rules.specs.Tree.{tree_at, trees_in}
 use Rattle.rz_rules.specs.Judgment.{head_of, ids_of, statement}
 use Rattle.rz_rules.specs.File.{Item, NodeItem, StepItem, ClaimItem, Known, words_of, numbers_of, Fits, NodeFits, StepFits, ClaimFits, after}
 use Rattle.rz_kernel.specs.declared.taking.Taken.TheVariants.{Good}
 use Rattle.rz_kernel.specs.Lines.{TakenAs, node_words, step_words, AreSmall, IsNodeOf, IsLineOf}
 use Rattle.rz_kernel.specs.declared.kept.Kept.{Kept}
-use Rattle.rz_kernel.specs.Kept.{known_of, trees_in}
+use Rattle.rz_kernel.specs.Kept.{known_of}
 use Rattle.rz_kernel.proofs.Sorts.{sorts_there}
 
 -- words of a table tell its items apart

@@ -1,5 +1,5 @@
 pub mod Decimals
-pub mod Trees
+pub mod Keeping
 pub mod Sorts
 pub mod Adding
 pub mod Scopes

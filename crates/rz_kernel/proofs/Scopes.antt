@@ -5,12 +5,12 @@ use Rattle.rz_rules.specs.declared.kinds.Kind.{Kind}
 use Rattle.rz_rules.specs.declared.kinds.Kind.TheVariants.{CubeTwo, PointVariable, AtMost, Or, CubeEntry}
 use Rattle.rz_rules.specs.declared.nodes.Node.{Node}
 use Rattle.rz_rules.specs.Form.{form}
-use Rattle.rz_rules.specs.Tree.{Tree, At, trees_of, tree_at, tree_over}
+use Rattle.rz_rules.specs.Tree.{Tree, At, trees_of, tree_at, tree_over, trees_in}
 use Rattle.rz_rules.specs.Tope.{cube_two, cubes_of, cube_of, IsOver}
 use Rattle.std.proofs.lemmas.Bool.{cases_lt}
 use Rattle.std.proofs.lemmas.List.{get_or_append_left, get_or_push, length_push}
-use Rattle.rz_kernel.specs.Kept.{trees_in, IsKeptNode, AreKept, TellsOver}
-use Rattle.rz_kernel.proofs.Trees.{at_place}
+use Rattle.rz_kernel.specs.Kept.{IsKeptNode, AreKept, TellsOver}
+use Rattle.rz_kernel.proofs.Keeping.{at_place}
 use Rattle.rz_kernel.proofs.Sorts.{slice_get-map}
 
 -- a node with these parts

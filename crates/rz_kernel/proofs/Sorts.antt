@@ -5,10 +5,10 @@ use Rattle.std.proofs.lemmas.List.Elements.{All-cons, All-nil}
 use Rattle.rz_rules.specs.declared.nodes.Node.{Node}
 use Rattle.rz_rules.specs.declared.kinds.Sort.{Sort}
 use Rattle.rz_rules.specs.Form.{form}
-use Rattle.rz_rules.specs.Tree.{Tree, sort_of, tree_at, tree_over}
+use Rattle.rz_rules.specs.Tree.{Tree, sort_of, tree_at, tree_over, trees_in}
 use Rattle.rz_kernel.specs.declared.kept.Kept.{Kept}
-use Rattle.rz_kernel.specs.Kept.{known_of, trees_in, IsKept}
-use Rattle.rz_kernel.proofs.Trees.{at_place}
+use Rattle.rz_kernel.specs.Kept.{known_of, IsKept}
+use Rattle.rz_kernel.proofs.Keeping.{at_place}
 
 pub slice_get-map : {A B : Type 0} (f : A → B) (xs : List A) (i : ℕ) → slice_get (map f xs) i ≡ option_map f (slice_get xs i)
 slice_get-map f [] i = refl

@@ -10,12 +10,12 @@ use Rattle.rz_rules.specs.declared.rows.Symbol.TheVariants.{Letter, Node as Node
 use Rattle.rz_rules.specs.declared.nodes.Node.{Node}
 use Rattle.rz_rules.specs.declared.judgments.Judgment.{Judgment}
 use Rattle.rz_rules.specs.Form.{form}
-use Rattle.rz_rules.specs.Tree.{Tree, Trees, At, trees_of, tree_at, tree_over}
+use Rattle.rz_rules.specs.Tree.{Tree, Trees, At, trees_of, tree_at, tree_over, trees_in}
 use Rattle.rz_rules.specs.Judgment.{Statement, head_of, ids_of, statement}
 use Rattle.rz_rules.specs.Row.{Spelled, spelled}
-use Rattle.rz_kernel.specs.Kept.{trees_in, IsKeptNode, AreKept}
+use Rattle.rz_kernel.specs.Kept.{IsKeptNode, AreKept}
 use Rattle.rz_kernel.specs.Matching.{Means}
-use Rattle.rz_kernel.proofs.Trees.{trees_of_injective}
+use Rattle.rz_rules.proofs.Trees.{trees_of_injective}
 use Rattle.rz_kernel.proofs.Scopes.{read_tree}
 
 -- what is spelled is its two parts

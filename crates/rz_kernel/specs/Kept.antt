@@ -2,19 +2,11 @@
 use Rattle.std.specs.Prelude.{◌≡◌, ℕ, Bool, false, IsTrue, ◌↔◌, ◌<◌, ◌≤◌, List, [], ◌∷◌, ◌++◌, length, All, map, slice_index_or}
 use Rattle.rz_rules.specs.declared.nodes.Node.{Node}
 use Rattle.rz_rules.specs.Form.{form}
-use Rattle.rz_rules.specs.Tree.{Tree, tree_at, tree_over}
+use Rattle.rz_rules.specs.Tree.{trees_in, Tree, tree_at, tree_over}
 use Rattle.rz_rules.specs.Judgment.{ids_of, statement}
 use Rattle.rz_rules.specs.Tope.{IsOver}
 use Rattle.rz_rules.specs.File.{Known}
 use Rattle.rz_kernel.specs.declared.kept.Kept.{Kept}
-
--- the trees of nodes whose kids are places among them
-abbrev pub trees_after : List Tree → List Node → List Tree
-trees_after trees [] = trees
-trees_after trees (node ∷ nodes) = trees_after (trees ++ tree_over trees node ∷ []) nodes
-
-abbrev pub trees_in : List Node → List Tree
-trees_in nodes = trees_after [] nodes
 
 -- what is known by what is kept
 abbrev pub known_of : Kept → Known

@@ -2,10 +2,10 @@
 
 ghost use Rattle.std.specs.Prelude.{◌≡◌, ◌≢◌, ℕ, ◌<◌, ◌↔◌, List, [], ◌∷◌, ◌++◌, length, All, IsTrue, Some, IfOk, OnOk, IfSome, IfNone, map, slice_get, slice_index, option_map};
 ghost use Rattle.std.specs.Option.{option_copied};
-ghost use Rattle.rz_rules.specs.Tree.{tree_at, tree_over, sort_of};
+ghost use Rattle.rz_rules.specs.Tree.{tree_at, tree_over, sort_of, trees_in};
 ghost use Rattle.rz_rules.specs.Judgment.{statement, head_of, ids_of};
 ghost use Rattle.rz_rules.specs.File.{nothing_known, after, sorts_at, NodeItem, NodeFits};
-ghost use Rattle.rz_kernel.specs.Kept.{known_of, IsKept, AreKept, IsKeptNode, KeepsTrees, trees_in};
+ghost use Rattle.rz_kernel.specs.Kept.{known_of, IsKept, AreKept, IsKeptNode, KeepsTrees};
 
 use rz_rules::{Judgment, Kids, Kind, Node, OutOfMemory, Sort};
 use std::alloc::Global;

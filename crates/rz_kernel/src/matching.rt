@@ -5,11 +5,11 @@
 //! the end of both, and meets each letter at one place alone.
 
 ghost use Rattle.std.specs.Prelude.{◌≡◌, ℕ, ◌<◌, ◌↔◌, List, [], ◌∷◌, ◌++◌, length, All, IsTrue, IfOk, IfSome, IfNone, MatchBool, OnOk, OnErr, map, reverse};
-ghost use Rattle.rz_rules.specs.Tree.{Tree, tree_at};
+ghost use Rattle.rz_rules.specs.Tree.{Tree, tree_at, trees_in};
 ghost use Rattle.rz_rules.specs.Judgment.{ids_of};
 ghost use Rattle.rz_rules.specs.declared.rows.Symbol.{Symbol};
 ghost use Rattle.rz_rules.specs.declared.rows.Symbol.TheVariants.{Letter, Node as NodeOf, Says};
-ghost use Rattle.rz_kernel.specs.Kept.{trees_in, AreKept};
+ghost use Rattle.rz_kernel.specs.Kept.{AreKept};
 ghost use Rattle.rz_kernel.specs.Matching.{Agrees, Spells, Means, IsWalk, IsConsistent, FollowsFrom};
 
 use crate::kept::is_kind;

@@ -2,7 +2,8 @@
 
 ghost use Rattle.std.specs.Prelude.{◌≡◌, ℕ, ◌+◌, ◌<◌, ◌≤◌, ◌^◌, List, [], ◌∷◌, ◌==◌, length, All, Some, IfOk, IfSome, IfNone, OnOk, map, slice_get, codes};
 ghost use Rattle.std.specs.List.{slice_split};
-ghost use Rattle.rz_kernel.specs.Kept.{known_of, trees_in, IsKept};
+ghost use Rattle.rz_kernel.specs.Kept.{known_of, IsKept};
+ghost use Rattle.rz_rules.specs.Tree.{trees_in};
 ghost use Rattle.rz_rules.specs.Judgment.{ids_of, statement};
 ghost use Rattle.rz_rules.specs.File.{StepItem, StepFits, ItemFollows};
 ghost use Rattle.rz_kernel.specs.Lines.{TakenAs};

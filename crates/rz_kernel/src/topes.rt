@@ -1,11 +1,11 @@
 //! Points and topes over a context, by places.
 
 ghost use Rattle.std.specs.Prelude.{◌≡◌, ℕ, ◌<◌, ◌≤◌, ◌↔◌, List, [], ◌∷◌, length, All, IsTrue, Some, IfOk, IfSome, IfNone, map, slice_get};
-ghost use Rattle.rz_rules.specs.Tree.{tree_at, tree_over};
+ghost use Rattle.rz_rules.specs.Tree.{tree_at, tree_over, trees_in};
 ghost use Rattle.rz_rules.specs.Tope.{cube_two, cubes_of as entries_of, cube_of, IsOver};
 ghost use Rattle.rz_rules.specs.Judgment.{head_of, ids_of};
 ghost use Rattle.rz_rules.specs.Derivation.{IsScoped};
-ghost use Rattle.rz_kernel.specs.Kept.{trees_in, AreKept, IsKeptNode, TellsOver};
+ghost use Rattle.rz_kernel.specs.Kept.{AreKept, IsKeptNode, TellsOver};
 
 use crate::kept::{is_kind, number_at};
 use rz_rules::{Judgment, Kind, Node, OutOfMemory};

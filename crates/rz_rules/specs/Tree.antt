@@ -1,5 +1,5 @@
 -- Trees, of all sorts alike, and the trees that nodes stand for.
-use Rattle.std.specs.Prelude.{ℕ, List, [], ◌∷◌, map}
+use Rattle.std.specs.Prelude.{ℕ, List, [], ◌∷◌, ◌++◌, map}
 use Rattle.std.specs.List.{slice_index_or}
 use Rattle.rz_rules.specs.declared.kinds.Sort.{Sort}
 use Rattle.rz_rules.specs.declared.kinds.Kind.{Kind}
@@ -34,3 +34,15 @@ tree_at trees id = slice_index_or trees id blank
 -- the tree of a node whose kids are among these trees
 abbrev pub tree_over : List Tree → Node → Tree
 tree_over trees node = At node.kind node.number node.name (trees_of (map (tree_at trees) node.kids))
+
+-- the trees of nodes whose kids are ids of trees that stand before them
+abbrev pub trees_after : List Tree → List Node → List Tree
+trees_after trees [] = trees
+trees_after trees (node ∷ nodes) = trees_after (trees ++ tree_over trees node ∷ []) nodes
+
+abbrev pub trees_in : List Node → List Tree
+trees_in nodes = trees_after [] nodes
+
+-- the tree that an id stands for, where the nodes are named by their places
+abbrev pub tree_of : List Node → ℕ → Tree
+tree_of nodes id = tree_at (trees_in nodes) id

@@ -15,7 +15,7 @@ pub enum Sort {
 }
 
 /// What a node is. Its word in a derivation file stands first in each line.
-#[derive(Clone, Copy, Debug, PartialEq, Eq)]
+#[derive(Clone, Copy, Debug, PartialEq, Eq, Hash)]
 pub enum Kind {
     /// `c2`: the directed interval, whose ends are the points 0 and 1.
     CubeTwo,

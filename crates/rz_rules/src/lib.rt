@@ -18,3 +18,6 @@ pub use nodes::{Kids, Node};
 pub use rows::{Row, Symbol};
 pub use steps::Steps;
 pub use words::Worded;
+
+#[cfg(test)]
+mod tests;

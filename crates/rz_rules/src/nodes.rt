@@ -1,11 +1,17 @@
 //! Nodes: trees whose parts are named by ids.
 
-ghost use Rattle.std.specs.Prelude.{◌≡◌, [], ◌∷◌, ◌++◌, ◌<◌, ◌≤◌, length, slice_get, ◌↔◌, IsTrue, IfOk};
+ghost use Rattle.std.specs.Prelude.{◌≡◌, [], ◌∷◌, ◌++◌, ◌<◌, ◌≤◌, length, slice_get, nat_eq, ◌↔◌, IsTrue, IfOk};
+ghost use Rattle.std.specs.Cmp.{partial_equiv_from_equiv};
+ghost use Rattle.std.specs.Cmp.Lexicographic.{pointwise, nat_list_eq_equiv};
+ghost use Rattle.std.specs.Cmp.Rules.{hashing};
+ghost use Rattle.std.specs.Hash as fed;
+ghost use Rattle.std.proofs.Common.{rules};
 
 use crate::kinds::Kind;
 use crate::lists::Name;
 use crate::memory::OutOfMemory;
 use std::alloc::Global;
+use std::hash::{Hash, Hasher};
 use std::marker::Model;
 
 /// The ids of a node's kids, or of a judgment's parts, in order: a list of at most seven.
@@ -94,8 +100,32 @@ impl Kids {
     }
 }
 
+impl PartialEq for Kids {
+    ghost eq = { pointwise nat_eq };
+
+    ghost laws = { partial_equiv_from_equiv nat_list_eq_equiv };
+
+    fn eq(&self, other: &Kids) -> bool {
+        self.as_slice() == other.as_slice()
+    }
+}
+
+impl Eq for Kids {
+    ghost laws = { nat_list_eq_equiv };
+}
+
+impl Hash for Kids {
+    ghost hash_input = { fed.slice fed.u64 };
+
+    ghost respects_eq = { Prim.search (hashing, rules) };
+
+    fn hash<H: Hasher>(&self, state: &mut H) {
+        self.as_slice().hash(state);
+    }
+}
+
 /// A node.
-#[derive(Debug, Drop)]
+#[derive(Debug, Drop, PartialEq, Eq, Hash)]
 pub struct Node {
     pub kind: Kind,
     /// The index of a variable, below 2^32; 0 elsewhere.

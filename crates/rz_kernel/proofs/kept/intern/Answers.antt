@@ -1,6 +1,6 @@
 use Rattle.std.proofs.Common.{sym, ap, subst, ◌∙◌, rules}
-use Rattle.rz_rules.specs.Tree.{tree_at}
-use Rattle.rz_kernel.specs.Kept.{trees_in, AreKept, KeepsTrees}
+use Rattle.rz_rules.specs.Tree.{tree_at, trees_in}
+use Rattle.rz_kernel.specs.Kept.{AreKept, KeepsTrees}
 use Rattle.rz_kernel.proofs.Adding.{found_tree, KeepsTrees-push, AreKept-new, new_tree}
 use Rattle.rz_kernel.proofs.kept.intern.Goals as goal
 

@@ -1,6 +1,6 @@
 use Rattle.std.proofs.Common.{◌≡◌, List, ◌++◌, ◌∷◌, [], ap, ◌∙◌}
 use Rattle.rz_rules.specs.declared.judgments.Judgment.{Judgment}
-use Rattle.rz_kernel.specs.Kept.{trees_in}
+use Rattle.rz_rules.specs.Tree.{trees_in}
 use Rattle.rz_kernel.proofs.Instances.{follows_iff}
 use Rattle.rz_kernel.proofs.matching.follows.Goals as goal
 

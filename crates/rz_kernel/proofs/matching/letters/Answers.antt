@@ -2,7 +2,7 @@ use Rattle.std.proofs.Common.{◌≡◌, ℕ, List, [], length, drop, true, fals
 use Rattle.std.specs.Prelude.{◌==◌}
 use Rattle.std.proofs.lemmas.List.{drop_all}
 use Rattle.rz_rules.specs.declared.rows.Symbol.{Symbol}
-use Rattle.rz_kernel.specs.Kept.{trees_in}
+use Rattle.rz_rules.specs.Tree.{trees_in}
 use Rattle.rz_kernel.specs.Matching.{Means}
 use Rattle.rz_kernel.proofs.Instances.{end_expects, end_rests}
 use Rattle.rz_kernel.proofs.matching.letters.Goals as goal

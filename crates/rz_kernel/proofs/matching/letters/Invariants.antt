@@ -1,7 +1,6 @@
 use Rattle.std.proofs.Common.{ℕ, length, drop, []}
 use Rattle.std.specs.Prelude.{◌↔◌}
-use Rattle.rz_rules.specs.Tree.{Tree}
-use Rattle.rz_kernel.specs.Kept.{trees_in}
+use Rattle.rz_rules.specs.Tree.{Tree, trees_in}
 use Rattle.rz_kernel.specs.Matching.{Means, Spells, IsWalk}
 use Rattle.rz_kernel.proofs.matching.letters.Given as goal
 

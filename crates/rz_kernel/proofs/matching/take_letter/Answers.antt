@@ -1,4 +1,4 @@
-use Rattle.rz_kernel.specs.Kept.{trees_in}
+use Rattle.rz_rules.specs.Tree.{trees_in}
 use Rattle.rz_kernel.proofs.Walks.{letter_step}
 use Rattle.rz_kernel.proofs.matching.take_letter.Goals as goal
 

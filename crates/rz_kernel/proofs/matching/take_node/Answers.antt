@@ -1,8 +1,7 @@
 use Rattle.std.proofs.Common.{◌≡◌, ℕ, ◌<◌, List, ◌++◌, length, All, ap, sym, subst, ◌∙◌, inl, inr, true, false, Some, map}
 use Rattle.std.specs.Prelude.{reverse}
 use Rattle.std.proofs.lemmas.List.Elements.{All-pop}
-use Rattle.rz_rules.specs.Tree.{trees_of, tree_at}
-use Rattle.rz_kernel.specs.Kept.{trees_in}
+use Rattle.rz_rules.specs.Tree.{trees_of, tree_at, trees_in}
 use Rattle.rz_kernel.proofs.Scopes.{read_tree}
 use Rattle.rz_kernel.proofs.Walks.{All-expected, kept_parts, kids_low, node_step, node_other}
 use Rattle.rz_kernel.proofs.matching.take_node.Goals as goal

@@ -1,7 +1,7 @@
 use Rattle.std.proofs.Common.{◌≡◌, ◌<◌, length, All, true}
 use Rattle.rz_rules.specs.declared.judgments.Judgment.{Judgment}
 use Rattle.rz_rules.specs.Judgment.{ids_of}
-use Rattle.rz_kernel.specs.Kept.{trees_in}
+use Rattle.rz_rules.specs.Tree.{trees_in}
 use Rattle.rz_kernel.proofs.Following.{placed_low, placed_says, premises_low, step_iff}
 use Rattle.rz_kernel.proofs.taking.step_follows.Goals as goal
 

@@ -1,7 +1,6 @@
 use Rattle.std.proofs.Common.{◌≡◌, ◌<◌, ◌++◌, length, map, All}
-use Rattle.rz_rules.specs.Tree.{tree_at}
+use Rattle.rz_rules.specs.Tree.{tree_at, trees_in}
 use Rattle.rz_rules.specs.Tope.{cubes_of}
-use Rattle.rz_kernel.specs.Kept.{trees_in}
 use Rattle.rz_kernel.proofs.topes.cubes_of.Given as goal
 
 -- the cubes so far, and those of the context that is left

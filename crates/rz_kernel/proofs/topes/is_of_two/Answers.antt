@@ -1,8 +1,7 @@
 use Rattle.std.proofs.Common.{◌≡◌, ℕ, ◌<◌, length, true, false, ap, sym, subst, ◌∙◌}
 use Rattle.std.specs.Prelude.{option_map}
-use Rattle.rz_rules.specs.Tree.{tree_at}
+use Rattle.rz_rules.specs.Tree.{tree_at, trees_in}
 use Rattle.rz_rules.specs.Tope.{cube_two}
-use Rattle.rz_kernel.specs.Kept.{trees_in}
 use Rattle.rz_kernel.proofs.Sorts.{slice_get_is}
 use Rattle.rz_kernel.proofs.Scopes.{point_none, point_cube, some_iff, none_iff}
 use Rattle.rz_kernel.proofs.topes.is_of_two.Goals as goal

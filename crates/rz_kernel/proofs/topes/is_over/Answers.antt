@@ -1,8 +1,8 @@
 use Rattle.std.proofs.Common.{◌≡◌, ◌<◌, get_or, ap, sym, subst, ◌∙◌, arith, length, map}
 use Rattle.std.proofs.lemmas.List.{length_push}
 use Rattle.std.proofs.lemmas.Grind.{common_steps}
-use Rattle.rz_rules.specs.Tree.{tree_at}
-use Rattle.rz_kernel.specs.Kept.{trees_in, TellsOver}
+use Rattle.rz_rules.specs.Tree.{tree_at, trees_in}
+use Rattle.rz_kernel.specs.Kept.{TellsOver}
 use Rattle.rz_kernel.proofs.Scopes.{told_more}
 use Rattle.rz_kernel.proofs.topes.is_over.Goals as goal
 

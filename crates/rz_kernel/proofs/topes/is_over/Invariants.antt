@@ -1,6 +1,6 @@
 use Rattle.std.proofs.Common.{◌≡◌, length, map}
-use Rattle.rz_rules.specs.Tree.{tree_at}
-use Rattle.rz_kernel.specs.Kept.{trees_in, TellsOver}
+use Rattle.rz_rules.specs.Tree.{tree_at, trees_in}
+use Rattle.rz_kernel.specs.Kept.{TellsOver}
 use Rattle.rz_kernel.proofs.topes.is_over.Given as goal
 
 -- it is told of the places so far

@@ -1,8 +1,8 @@
 use Rattle.std.proofs.Common.{◌≡◌, get_or, sym, ap, subst, ◌∙◌, length, map, All, ◌<◌}
 use Rattle.std.proofs.lemmas.List.{length-map}
-use Rattle.rz_rules.specs.Tree.{tree_at}
+use Rattle.rz_rules.specs.Tree.{tree_at, trees_in}
 use Rattle.rz_rules.specs.Judgment.{statement}
-use Rattle.rz_kernel.specs.Kept.{known_of, trees_in}
+use Rattle.rz_kernel.specs.Kept.{known_of}
 use Rattle.rz_kernel.proofs.Adding.{known_added, kids_there, kids_count, places_low}
 use Rattle.rz_kernel.proofs.kept.Kept.add_node.Goals as goal
 

@@ -1,0 +1,6 @@
+pub mod Nodes
+pub mod Sets
+pub mod Orders
+pub mod Listing
+pub mod Copying
+pub mod Sorts
