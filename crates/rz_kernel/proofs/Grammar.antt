@@ -1,23 +1,24 @@
 -- The words of an item tell it: no other item that fits has them.
-use Rattle.std.proofs.Common.{◌≡◌, ◌≢◌, ℕ, zero, suc, ◌+◌, ◌<◌, ◌^◌, Bool, true, false, cond, List, [], ◌∷◌, ◌++◌, length, get_or, take, map, All, Some, refl, sym, ap, ◌∙◌, arith}
-use Rattle.std.specs.Prelude.{find, codes, slice_get}
+use Rattle.std.proofs.Common.{◌≡◌, ◌≢◌, ℕ, ◌<◌, ◌^◌, Bool, true, false, cond, List, [], ◌∷◌, ◌++◌, length, get_or, map, All, Some, refl, sym, ap, ◌∙◌, arith}
+use Rattle.std.specs.Prelude.{find, codes}
 use Rattle.std.specs.Str.{bytes_eq}
 use Rattle.std.specs.Fmt.{decimal}
 use Rattle.std.proofs.lemmas.Fmt.{decimal_injective}
-use Rattle.std.proofs.lemmas.List.{map-append, take_more, length-map}
+use Rattle.std.proofs.lemmas.List.{length-map}
 use Rattle.std.proofs.lemmas.List.Elements.{All-head, All-tail, All-cons, All-nil, All-append}
 use Rattle.rz_rules.specs.declared.kinds.Kind.{Kind}
 use Rattle.rz_rules.specs.declared.kinds.Head.{Head}
 use Rattle.rz_rules.specs.declared.rows.Row.{Row}
 use Rattle.rz_rules.specs.declared.nodes.Node.{Node}
 use Rattle.rz_rules.specs.declared.judgments.Line.{Line}
-use Rattle.rz_rules.specs.Form.{form, word_of_kind, word_of_head, all_kinds, all_heads, kinds_found_again, heads_found_again, parts_of_head}
+use Rattle.rz_rules.specs.Form.{form, kid_sorts, is_numbered, word_of_kind, word_of_head, all_kinds, all_heads, kinds_found_again, heads_found_again, parts_of_head}
 use Rattle.rz_rules.specs.Table.{word_of_row, all_rows, rows_found_again}
-use Rattle.rz_rules.specs.Tree.{tree_at, trees_in}
+use Rattle.rz_rules.specs.Tree.{tree_of, trees_in}
 use Rattle.rz_rules.specs.Judgment.{head_of, ids_of, statement}
 use Rattle.rz_rules.specs.File.{Item, NodeItem, StepItem, ClaimItem, Known, words_of, numbers_of, Fits, NodeFits, StepFits, ClaimFits, after}
 use Rattle.rz_kernel.specs.declared.taking.Taken.TheVariants.{Good}
 use Rattle.rz_kernel.specs.Lines.{TakenAs, node_words, step_words, AreSmall, IsNodeOf, IsLineOf}
+use Rattle.rz_kernel_rows.specs.Matching.{said}
 use Rattle.rz_kernel.specs.declared.kept.Kept.{Kept}
 use Rattle.rz_kernel.specs.Kept.{known_of}
 use Rattle.rz_kernel.proofs.Sorts.{sorts_there}
@@ -67,9 +68,9 @@ number_small false number h = All-nil (λ n. n < 2 ^ 64)
 
 pub node_small : (known : Known) (node : Node) → IsFew known → NodeFits known node → AreSmall (numbers_of node)
 node_small known node few fits =
-    All-append (λ n. n < 2 ^ 64) (cond (form node.kind).numbered (node.number ∷ []) []) node.kids
-    (number_small (form node.kind).numbered node.number fits.number)
-    (ids_small (length known.trees) node.kids few.trees (sorts_there known.trees node.kids (form node.kind).kids fits.kids).0)
+    All-append (λ n. n < 2 ^ 64) (cond (is_numbered (form node.kind).role) (node.number ∷ []) []) node.kids
+    (number_small (is_numbered (form node.kind).role) node.number fits.number)
+    (ids_small (length known.trees) node.kids few.trees (sorts_there known.trees node.kids (kid_sorts node.kind) fits.kids).0)
 
 pub line_small : (known : Known) (line : Line) → IsFew known → StepFits known line → AreSmall (ids_of line.says ++ line.from)
 line_small known line few fits =
@@ -171,30 +172,14 @@ no_item known ws n s c (NodeItem node) fits e = n _ (sym e)
 no_item known ws n s c (StepItem line) fits e = s _ (sym e)
 no_item known ws n s c (ClaimItem name step) fits e = c _ (sym e)
 
--- ---- premises
-
-there : {A : Type 0} (xs : List A) (i : ℕ) (d : A) → i < length xs → slice_get xs i ≡ Some (get_or xs i d)
-there [] i d lt = absurd (omega arith)
-there (x ∷ xs) zero d lt = refl
-there (x ∷ xs) (suc i) d lt = there xs i d (omega arith)
-
-pub premises_more : {A : Type 0} (says : List A) (from : List ℕ) (premises : List A) (i : ℕ) (d : A) → i < length from → get_or from i 0 < length says
-    → map (λ j. Some j) premises ≡ map (slice_get says) (take i from) → map (λ j. Some j) (premises ++ get_or says (get_or from i 0) d ∷ []) ≡ map (slice_get says) (take (i + 1) from)
-premises_more says from premises i d lt lt' so_far =
-    map-append (λ j. Some j) premises (get_or says (get_or from i 0) d ∷ [])
-    ∙ ap (λ xs. xs ++ Some (get_or says (get_or from i 0) d) ∷ []) so_far
-    ∙ ap (λ x. map (slice_get says) (take i from) ++ x ∷ []) (sym (there says (get_or from i 0) d lt'))
-    ∙ sym (map-append (slice_get says) (take i from) (get_or from i 0 ∷ []))
-    ∙ ap (map (slice_get says)) (sym (take_more from i 0 lt))
-
 -- what is kept is few: it stands in memory
 pub kept_few : (kept : Kept) → IsFew (known_of kept)
 kept_few kept =
     let a = kept.places.ok in
     let b = kept.places.small in
-    let c = kept.says.ok in
-    let d = kept.says.small in
+    let c = kept.lines.ok in
+    let d = kept.lines.small in
     record {
-      trees = omega (arith, a.0, a.1, b, length-map kept.places.items (tree_at (trees_in kept.nodes.items)));
-      statements = omega (arith, c.0, c.1, d, length-map kept.says.items (statement (trees_in kept.nodes.items)));
+      trees = omega (arith, a.0, a.1, b, length-map kept.places.items (tree_of kept.pool.nodes));
+      statements = omega (arith, c.0, c.1, d, length-map (said kept.lines.items) (statement (trees_in kept.pool.nodes)), length-map kept.lines.items (λ line. line.says));
     }

@@ -1,10 +1,6 @@
 pub mod Decimals
-pub mod Keeping
 pub mod Sorts
 pub mod Adding
-pub mod Scopes
-pub mod Walks
-pub mod Instances
 pub mod Grammar
 pub mod Following
 pub mod Texts

@@ -12,7 +12,7 @@ use Rattle.rz_rules.specs.declared.nodes.Node.{Node}
 use Rattle.rz_rules.specs.declared.judgments.Judgment.{Judgment}
 use Rattle.rz_rules.specs.declared.judgments.Judgment.TheVariants.{Formed, Holds}
 use Rattle.rz_rules.specs.declared.judgments.Line.{Line}
-use Rattle.rz_rules.specs.Form.{form, word_of_kind, word_of_head}
+use Rattle.rz_rules.specs.Form.{form, is_numbered, word_of_kind, word_of_head}
 use Rattle.rz_rules.specs.Table.{word_of_row}
 use Rattle.rz_rules.specs.Tree.{tree_over}
 use Rattle.rz_rules.specs.Judgment.{head_of, ids_of, statement}
@@ -39,8 +39,8 @@ node_same known x y few fx fy e =
     let numerals : map decimal (numbers_of x) ≡ map decimal (numbers_of y) = cc in
     let kinds : x.kind ≡ y.kind = same_kind x.kind y.kind words in
     let numbers : numbers_of x ≡ numbers_of y = same_numbers (numbers_of x) (numbers_of y) (node_small known x few fx) (node_small known y few fy) numerals in
-    let parts = parts_same (form x.kind).numbered x.number y.number x.kids y.kids fx.unnumbered (λ f. fy.unnumbered (ap (λ k. (form k).numbered) (sym kinds) ∙ f))
-    (numbers ∙ ap (λ k. cond (form k).numbered (y.number ∷ []) [] ++ y.kids) (sym kinds)) in
+    let parts = parts_same (is_numbered (form x.kind).role) x.number y.number x.kids y.kids fx.unnumbered (λ f. fy.unnumbered (ap (λ k. is_numbered (form k).role) (sym kinds) ∙ f))
+    (numbers ∙ ap (λ k. cond (is_numbered (form k).role) (y.number ∷ []) [] ++ y.kids) (sym kinds)) in
     let names : x.name ≡ y.name = fx.unnamed ∙ sym fy.unnamed in
     λ i. record { kind = kinds i; number = parts.0 i; name = names i; kids = parts.1 i }
 

@@ -1,39 +1,22 @@
 -- Sorts of nodes by their ids.
-use Rattle.std.proofs.Common.{◌≡◌, ◌≢◌, ℕ, zero, suc, ◌<◌, List, [], ◌∷◌, length, get_or, map, All, Option, Some, refl, ap, ◌∙◌, arith}
+use Rattle.std.proofs.Common.{◌≡◌, ◌≢◌, ℕ, zero, suc, ◌<◌, List, [], ◌∷◌, length, get_or, map, All, Option, Some, None, refl, ap, ◌∙◌, arith}
 use Rattle.std.specs.Prelude.{option_map, slice_get}
 use Rattle.std.proofs.lemmas.List.Elements.{All-cons, All-nil}
-use Rattle.rz_rules.specs.declared.nodes.Node.{Node}
 use Rattle.rz_rules.specs.declared.kinds.Sort.{Sort}
-use Rattle.rz_rules.specs.Form.{form}
-use Rattle.rz_rules.specs.Tree.{Tree, sort_of, tree_at, tree_over, trees_in}
+use Rattle.rz_rules.specs.Tree.{Tree, sort_of, tree_of}
 use Rattle.rz_kernel.specs.declared.kept.Kept.{Kept}
-use Rattle.rz_kernel.specs.Kept.{known_of, IsKept}
-use Rattle.rz_kernel.proofs.Keeping.{at_place}
-
-pub slice_get-map : {A B : Type 0} (f : A → B) (xs : List A) (i : ℕ) → slice_get (map f xs) i ≡ option_map f (slice_get xs i)
-slice_get-map f [] i = refl
-slice_get-map f (x ∷ xs) zero = refl
-slice_get-map f (x ∷ xs) (suc i) = slice_get-map f xs i
-
--- what stands at a place
-pub slice_get_is : {A : Type 0} (xs : List A) (i : ℕ) (x d : A) → slice_get xs i ≡ Some x → (i < length xs) × (get_or xs i d ≡ x)
-slice_get_is [] i x d e = absurd cc
-slice_get_is (y ∷ xs) zero x d e =
-    let same : y ≡ x = cc in
-    (omega arith, same)
-slice_get_is (y ∷ xs) (suc i) x d e =
-    let rest = slice_get_is xs i x d e in
-    (omega (arith, rest.0), rest.1)
+use Rattle.rz_kernel.specs.Kept.{known_of}
+use Rattle.rz_kernel_rows.proofs.Lists.{slice_get-map}
 
 -- the sort of a node of the file
-pub sort_there : (kept : Kept) → IsKept kept → (id p : ℕ) (node : Node) → slice_get kept.places.items id ≡ Some p → slice_get kept.nodes.items p ≡ Some node
-    → option_map sort_of (slice_get (known_of kept).trees id) ≡ Some (form node.kind).sort
-sort_there kept h id p node at there =
-    let place = slice_get_is kept.nodes.items p node node there in
-    let tree : tree_at (trees_in kept.nodes.items) p ≡ tree_over (trees_in kept.nodes.items) node =
-    at_place kept.nodes.items h.nodes p node place.0 ∙ ap (tree_over (trees_in kept.nodes.items)) place.1 in
-    ap (option_map sort_of) (slice_get-map (tree_at (trees_in kept.nodes.items)) kept.places.items id ∙ ap (option_map (tree_at (trees_in kept.nodes.items))) at)
-    ∙ ap (λ t. Some (sort_of t)) tree
+pub sort_there : (kept : Kept) (id p : ℕ) → slice_get kept.places.items id ≡ Some p
+    → option_map sort_of (slice_get (known_of kept).trees id) ≡ Some (sort_of (tree_of kept.pool.nodes p))
+sort_there kept id p at =
+    ap (option_map sort_of) (slice_get-map (tree_of kept.pool.nodes) kept.places.items id ∙ ap (option_map (tree_of kept.pool.nodes)) at)
+
+pub sort_missing : (kept : Kept) (id : ℕ) → slice_get kept.places.items id ≡ None → option_map sort_of (slice_get (known_of kept).trees id) ≡ None
+sort_missing kept id at =
+    ap (option_map sort_of) (slice_get-map (tree_of kept.pool.nodes) kept.places.items id ∙ ap (option_map (tree_of kept.pool.nodes)) at)
 
 -- lists that differ at one place
 pub differ_at : {A B : Type 0} (f : A → Option B) (xs : List A) (ys : List B) (i : ℕ) (d : A) (e : B) → i < length xs → i < length ys

@@ -67,12 +67,8 @@ solid_from (b ∷ word) e =
     All-cons (λ byte. is_white byte ≡ false) b word p.0 (solid_from word p.1)
 
 kind_solid : (kind : Kind) → IsSolid (word_of_kind kind)
-kind_solid kinds.CubeTwo = solid_from (word_of_kind kinds.CubeTwo) refl
-kind_solid kinds.PointVariable = solid_from (word_of_kind kinds.PointVariable) refl
-kind_solid kinds.AtMost = solid_from (word_of_kind kinds.AtMost) refl
-kind_solid kinds.Or = solid_from (word_of_kind kinds.Or) refl
-kind_solid kinds.EmptyContext = solid_from (word_of_kind kinds.EmptyContext) refl
-kind_solid kinds.CubeEntry = solid_from (word_of_kind kinds.CubeEntry) refl
+kind_solid kinds.CubeOne = solid_from (word_of_kind kinds.CubeOne) refl
+kind_solid kind = solid_from (word_of_kind kind) refl
 
 head_solid : (head : Head) → IsSolid (word_of_head head)
 head_solid heads.Formed = solid_from (word_of_head heads.Formed) refl
@@ -80,8 +76,7 @@ head_solid heads.Holds = solid_from (word_of_head heads.Holds) refl
 
 row_solid : (row : Row) → IsSolid (word_of_row row)
 row_solid rows.FormNil = solid_from (word_of_row rows.FormNil) refl
-row_solid rows.FormCube = solid_from (word_of_row rows.FormCube) refl
-row_solid rows.AtMostTotal = solid_from (word_of_row rows.AtMostTotal) refl
+row_solid row = solid_from (word_of_row row) refl
 
 number_solid : (n : ℕ) → n < 2 ^ 64 → IsSolid (decimal n)
 number_solid n small k d lt =

@@ -1,7 +1,6 @@
 pub mod Answer
 pub mod Kept
 pub mod Numeral
-pub mod Matching
 pub mod Lines
 pub mod Run
 pub use Rattle.rz_rules.specs.File

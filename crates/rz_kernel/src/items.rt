@@ -15,7 +15,9 @@ ghost use Rattle.rz_kernel.specs.Lines.{node_words, step_words, AreSmall, IsNode
 
 use crate::kept::Kept;
 use crate::numbers::{number_of, numbers_of};
-use rz_rules::{Head, Judgment, Kids, Kind, Line, Name, Node, Numbers, OutOfMemory, Row, Worded};
+use rz_rules::{
+    Head, Judgment, Kids, Kind, Line, Name, Node, Numbers, OutOfMemory, Row, Sort, Worded,
+};
 use std::alloc::Global;
 
 /// The kind and the numbers that words spell.
@@ -59,11 +61,11 @@ pub fn node_from(alloc: Global, kept: &Kept, kind: Kind, numbers: &[u64]) -> Opt
     ensures none { IfNone result ((node : Node) → IsNodeOf (known_of kept.now) kind numbers.now node → ⊥) }
 {
     let form = kind.form();
-    let (number, kids) = number_and_kids(form.numbered, numbers)?;
-    if !kept.says.is_empty() || kept.claims != 0 || number >= 1 << 32 {
+    let (number, kids) = number_and_kids(form.role.is_numbered(), numbers)?;
+    if !kept.lines.is_empty() || kept.claims != 0 || number >= 1 << 32 {
         return None;
     }
-    if !kept.have_sorts(kids, form.kids) {
+    if form.sort == Sort::Term || !kept.fill(kids, form.kids) {
         return None;
     }
     Some(Node {
@@ -120,7 +122,7 @@ pub fn line_from(
         return Ok(None);
     }
     let (parts, from) = numbers.split_at(count);
-    if !kept.have_sorts(parts, head.parts()) || !all_below(from, kept.says.len() as u64) {
+    if !kept.fill(parts, head.parts()) || !all_below(from, kept.lines.len() as u64) {
         return Ok(None);
     }
     let Some(says) = Judgment::of(head, parts) else {
@@ -151,7 +153,7 @@ pub fn claim_of(kept: &Kept, words: &[&[u8]]) -> Option<u64>
         return None;
     };
     let step = number_of(step)?;
-    if is_name(name) && step < kept.says.len() as u64 {
+    if is_name(name) && step < kept.lines.len() as u64 {
         Some(step)
     } else {
         None

@@ -1,24 +1,24 @@
 //! What is kept while a file is read.
 
-ghost use Rattle.std.specs.Prelude.{◌≡◌, ◌≢◌, ℕ, ◌<◌, ◌↔◌, List, [], ◌∷◌, ◌++◌, length, All, IsTrue, Some, IfOk, OnOk, IfSome, IfNone, map, slice_get, slice_index, option_map};
-ghost use Rattle.std.specs.Option.{option_copied};
-ghost use Rattle.rz_rules.specs.Tree.{tree_at, tree_over, sort_of, trees_in};
-ghost use Rattle.rz_rules.specs.Judgment.{statement, head_of, ids_of};
+ghost use Rattle.std.specs.Prelude.{◌≡◌, ◌<◌, ◌↔◌, length, All, IsTrue, Some, OnOk, map, slice_get, slice_index, option_map};
+ghost use Rattle.rz_rules.specs.Tree.{sort_of};
+ghost use Rattle.rz_rules.specs.Judgment.{head_of, ids_of};
 ghost use Rattle.rz_rules.specs.File.{nothing_known, after, sorts_at, NodeItem, NodeFits};
-ghost use Rattle.rz_kernel.specs.Kept.{known_of, IsKept, AreKept, IsKeptNode, KeepsTrees};
+ghost use Rattle.rz_kernel.specs.Kept.{known_of, IsKept};
 
-use rz_rules::{Judgment, Kids, Kind, Node, OutOfMemory, Sort};
+use rz_pool::Pool;
+use rz_rules::{Judgment, Kids, Line, Node, OutOfMemory, Slot, Sort};
 use std::alloc::Global;
 
 /// What the lines so far give.
 #[derive(Drop)]
 pub struct Kept {
-    /// The different nodes of the file, each once; their kids are places in this list.
-    pub nodes: Vec<Node>,
-    /// For each node of the file in order, its place in `nodes`.
+    /// The different nodes of the file, each once.
+    pub pool: Pool,
+    /// For each node of the file in order, its id in the pool.
     pub places: Vec<u64>,
-    /// For each step of the file in order, what it says; its parts are places in `nodes`.
-    pub says: Vec<Judgment>,
+    /// The steps of the file in order, over ids of the pool.
+    pub lines: Vec<Line>,
     /// How many claims there are.
     pub claims: u64,
 }
@@ -30,9 +30,9 @@ impl Kept {
         ensures kept { IsKept result }
     {
         Kept {
-            nodes: Vec::new(alloc),
+            pool: Pool::new(alloc),
             places: Vec::new(alloc),
-            says: Vec::new(alloc),
+            lines: Vec::new(alloc),
             claims: 0,
         }
     }
@@ -43,8 +43,7 @@ impl Kept {
         ensures { result ≡ option_map sort_of (slice_get (known_of self.now).trees id) }
     {
         let place = number_at(&self.places, id)?;
-        let node = node_at(&self.nodes, place)?;
-        Some(node.kind.form().sort)
+        Some(self.pool.node(place).kind.form().sort)
     }
 
     /// Whether a node of the file is there and has this sort.
@@ -55,16 +54,16 @@ impl Kept {
         self.sort_of(id) == Some(sort)
     }
 
-    /// Whether the nodes of these ids are there, and have these sorts, one by one.
-    pub fn have_sorts(&self, ids: &[u64], sorts: &[Sort]) -> bool
+    /// Whether the nodes of these ids are there, and have the sorts of these places, one by one.
+    pub fn fill(&self, ids: &[u64], slots: &[Slot]) -> bool
         requires { IsKept self.now }
-        ensures { IsTrue result ↔ (sorts_at (known_of self.now).trees ids.now ≡ map (λ sort. Some sort) sorts.now) }
+        ensures { IsTrue result ↔ (sorts_at (known_of self.now).trees ids.now ≡ map (λ sort. Some sort) (map (λ slot. slot.sort) slots.now)) }
     {
-        if ids.len() != sorts.len() {
+        if ids.len() != slots.len() {
             return false;
         }
         for (i, id) in ids.iter().enumerate() {
-            if !self.has_sort(*id, sorts[i]) {
+            if !self.has_sort(*id, slots[i].sort) {
                 return false;
             }
         }
@@ -79,35 +78,15 @@ impl Kept {
         ensures kept { OnOk result (IsKept self.new) }
     {
         let kids = places_of(&self.places, &node.kids);
-        let place = intern(
-            &mut self.nodes,
-            Node {
-                kind: node.kind,
-                number: node.number,
-                name: node.name,
-                kids,
-            },
-        )?;
+        let place = self.pool.make(Node {
+            kind: node.kind,
+            number: node.number,
+            name: node.name,
+            kids,
+        })?;
         self.places.push(place)?;
         Ok(())
     }
-}
-
-/// The place of a node, whose kids are places: that of its equal, or a new one at the end.
-fn intern(nodes: &mut Vec<Node>, node: Node) -> Result<u64, OutOfMemory>
-    requires kept { AreKept nodes.old.items }
-    requires fine { IsKeptNode (length nodes.old.items) node }
-    ensures there { IfOk result (λ place. place < length nodes.new.items) }
-    ensures tree { IfOk result (λ place. tree_at (trees_in nodes.new.items) place ≡ tree_over (trees_in nodes.old.items) node) }
-    ensures kept { AreKept nodes.new.items }
-    ensures keeps { KeepsTrees nodes.old.items nodes.new.items }
-{
-    if let Some(place) = place_of(nodes, &node) {
-        return Ok(place);
-    }
-    let place = nodes.len() as u64;
-    nodes.push(node)?;
-    Ok(place)
 }
 
 /// The number at a place; `None` where there is none.
@@ -115,20 +94,6 @@ pub fn number_at(numbers: &[u64], place: u64) -> Option<u64>
     ensures { result ≡ slice_get numbers.now place }
 {
     numbers.get(place as usize).copied()
-}
-
-/// The node at a place; `None` where there is none.
-pub fn node_at(nodes: &[Node], place: u64) -> Option<&Node>
-    ensures { option_copied result ≡ slice_get nodes.now place }
-{
-    nodes.get(place as usize)
-}
-
-/// Whether a node is of a kind.
-pub fn is_kind(node: &Node, kind: Kind) -> bool
-    ensures { IsTrue result ↔ (node.now.kind ≡ kind) }
-{
-    node.kind == kind
 }
 
 /// The places of nodes of the file.
@@ -143,21 +108,25 @@ fn places_of(places: &[u64], ids: &Kids) -> Kids
     kids
 }
 
-/// The place of the node that equals this one.
-fn place_of(nodes: &[Node], node: &Node) -> Option<u64>
-    ensures found { IfSome result (λ place. slice_get nodes.now place ≡ Some node.now) }
-    ensures none { IfNone result ((place : ℕ) → slice_get nodes.now place ≢ Some node.now) }
+/// A line over nodes of the file, over their places.
+pub fn placed_line(places: &[u64], line: Line) -> Line
+    requires { All (λ id. id < length places.now) (ids_of line.says) }
+    ensures row { result.row ≡ line.row }
+    ensures number { result.number ≡ line.number }
+    ensures from { result.from ≡ line.from }
+    ensures head { head_of result.says ≡ head_of line.says }
+    ensures parts { ids_of result.says ≡ map (slice_index places.now) (ids_of line.says) }
 {
-    for (place, other) in nodes.iter().enumerate() {
-        if other.is_same(node) {
-            return Some(place as u64);
-        }
+    Line {
+        row: line.row,
+        number: line.number,
+        says: placed(places, line.says),
+        from: line.from,
     }
-    None
 }
 
 /// What a judgment over nodes of the file says of their places.
-pub fn placed(places: &[u64], says: Judgment) -> Judgment
+fn placed(places: &[u64], says: Judgment) -> Judgment
     requires { All (λ id. id < length places.now) (ids_of says) }
     ensures head { head_of result ≡ head_of says }
     ensures parts { ids_of result ≡ map (slice_index places.now) (ids_of says) }

@@ -6,11 +6,9 @@
 mod answer;
 mod items;
 mod kept;
-mod matching;
 mod numbers;
 mod reading;
 mod taking;
-mod topes;
 
 pub use answer::KernelAnswer;
 pub use reading::kernel;

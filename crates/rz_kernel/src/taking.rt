@@ -1,17 +1,14 @@
 //! A line at a time.
 
-ghost use Rattle.std.specs.Prelude.{◌≡◌, ℕ, ◌+◌, ◌<◌, ◌≤◌, ◌^◌, List, [], ◌∷◌, ◌==◌, length, All, Some, IfOk, IfSome, IfNone, OnOk, map, slice_get, codes};
+ghost use Rattle.std.specs.Prelude.{◌≡◌, ◌+◌, ◌<◌, ◌≤◌, ◌^◌, ◌∷◌, ◌==◌, IfOk, OnOk, map, codes};
 ghost use Rattle.std.specs.List.{slice_split};
 ghost use Rattle.rz_kernel.specs.Kept.{known_of, IsKept};
-ghost use Rattle.rz_rules.specs.Tree.{trees_in};
-ghost use Rattle.rz_rules.specs.Judgment.{ids_of, statement};
-ghost use Rattle.rz_rules.specs.File.{StepItem, StepFits, ItemFollows};
 ghost use Rattle.rz_kernel.specs.Lines.{TakenAs};
 
 use crate::items::{claim_of, line_from, node_from, node_parts, step_parts};
-use crate::kept::{Kept, placed};
-use crate::matching::follows;
-use rz_rules::{Judgment, Line, OutOfMemory};
+use crate::kept::{Kept, placed_line};
+use rz_kernel_rows::follows;
+use rz_rules::OutOfMemory;
 use std::alloc::{AllocError, Global};
 
 const NODE: &[u8] = b"n";
@@ -91,41 +88,12 @@ fn take_step(alloc: Global, kept: &mut Kept, words: &[&[u8]]) -> Result<Taken, O
     let Some(line) = line_from(alloc, kept, row, number, head, &numbers)? else {
         return Ok(Taken::Malformed);
     };
-    let Some(says) = step_follows(alloc, kept, &line)? else {
+    let line = placed_line(&kept.places, line);
+    if !follows(alloc, &mut kept.pool, &kept.lines, &line)? {
         return Ok(Taken::BadRow);
-    };
-    kept.says.push(says)?;
+    }
+    kept.lines.push(line)?;
     Ok(Taken::Good)
-}
-
-/// What a step says, by places, where it follows; `None` where it doesn't.
-fn step_follows(alloc: Global, kept: &Kept, line: &Line) -> Result<Option<Judgment>, OutOfMemory>
-    requires kept { IsKept kept.now }
-    requires fits { StepFits (known_of kept.now) line.now }
-    ensures follows { IfOk result (λ answer. IfSome answer (λ says. ItemFollows (known_of kept.now) (StepItem line.now))) }
-    ensures says { IfOk result (λ answer. IfSome answer (λ says. statement (trees_in kept.now.nodes.items) says ≡ statement (known_of kept.now).trees line.now.says)) }
-    ensures there { IfOk result (λ answer. IfSome answer (λ says. All (λ id. id < length kept.now.nodes.items) (ids_of says))) }
-    ensures none { IfOk result (λ answer. IfNone answer (ItemFollows (known_of kept.now) (StepItem line.now) → ⊥)) }
-{
-    let says = placed(&kept.places, line.says);
-    let premises = premises_of(alloc, &kept.says, line.from.as_slice())?;
-    if follows(alloc, &kept.nodes, line.row, line.number, &premises, says)? {
-        Ok(Some(says))
-    } else {
-        Ok(None)
-    }
-}
-
-/// What the steps say that a line names.
-fn premises_of(alloc: Global, says: &[Judgment], from: &[u64]) -> Result<Vec<Judgment>, OutOfMemory>
-    requires { All (λ step. step < length says.now) from.now }
-    ensures { IfOk result (λ premises. map (λ j. Some j) premises.items ≡ map (slice_get says.now) from.now) }
-{
-    let mut premises = Vec::new(alloc);
-    for step in from {
-        premises.push(says[*step as usize])?;
-    }
-    Ok(premises)
 }
 
 /// Takes the words of a claim, behind the first.

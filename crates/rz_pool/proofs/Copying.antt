@@ -5,6 +5,7 @@ use Rattle.std.proofs.lemmas.List.Elements.{All-head, All-tail, All-map, All-wea
 use Rattle.std.proofs.lemmas.Bool.{cases_lt}
 use Rattle.std.specs.Cmp.{unsigned_Decides}
 use Rattle.rz_rules.specs.declared.nodes.Node.{Node}
+use Rattle.rz_rules.specs.File.{IsName}
 use Rattle.rz_rules.specs.Tree.{Tree, At, trees_of, sort_of, trees_in, tree_over, tree_of}
 use Rattle.rz_pool.specs.Part.{IsPart}
 use Rattle.rz_pool.specs.Pool.{HasForm, Makes, Adds}
@@ -73,10 +74,16 @@ module _ (from to : List Node) (copies : ℕ → Option ℕ) where
       sorts = ap (map sort_of) trees ∙ form.sorts;
       number = form.number;
       unnumbered = form.unnumbered;
+      unnamed = λ e. same ∙ form.unnamed e;
+      named = λ e. subst IsName (sym same) (form.named e);
     }
 
-    pub tree_over-copy : tree_over (trees_in to) (record { kind = node.kind; number = node.number; name = name; kids = kids }) ≡ tree_over (trees_in from) node
-    tree_over-copy = λ i. At node.kind node.number (same i) (trees_of (trees i))
+    -- what is made of it has the tree of the node
+    pub tree_of-copy : {E : Type 0} (r : Result ℕ E) (new : List Node) (tree : Tree) (number : ℕ) → number ≡ node.number → tree ≡ tree_over (trees_in from) node
+        → IfOk r (λ copy. tree_of new copy ≡ tree_over (trees_in to) (record { kind = node.kind; number = number; name = name; kids = kids }))
+        → IfOk r (λ copy. tree_of new copy ≡ tree)
+    tree_of-copy (Ok copy) new tree number counted is made = made ∙ ((λ i. At node.kind (counted i) (same i) (trees_of (trees i))) ∙ sym is)
+    tree_of-copy (Err e) new tree number counted is made = made
 
 -- some ids are still to be copied, each after its kids, and the others have copies
 pub record IsCopying (from : List Node) (id : ℕ) (copies : ℕ → Option ℕ) (old to : List Node) (ids : List ℕ) : Type 0 where

@@ -22,10 +22,10 @@ module _ (ns ms : List Node) (bound : ℕ) (n : Node) (le : bound ≤ length ns)
   kid_trees low = ap (map sort_of) (trees_of-append ns ms n.kids (λ k d l. omega (arith, low k d l)))
 
   pub HasForm-append : HasForm ns bound n → HasForm (ns ++ ms) bound n
-  HasForm-append h = record { kids = h.kids; sorts = kid_trees h.kids ∙ h.sorts; number = h.number; unnumbered = h.unnumbered }
+  HasForm-append h = record { kids = h.kids; sorts = kid_trees h.kids ∙ h.sorts; number = h.number; unnumbered = h.unnumbered; unnamed = h.unnamed; named = h.named }
 
   pub HasForm-front : HasForm (ns ++ ms) bound n → HasForm ns bound n
-  HasForm-front h = record { kids = h.kids; sorts = sym (kid_trees h.kids) ∙ h.sorts; number = h.number; unnumbered = h.unnumbered }
+  HasForm-front h = record { kids = h.kids; sorts = sym (kid_trees h.kids) ∙ h.sorts; number = h.number; unnumbered = h.unnumbered; unnamed = h.unnamed; named = h.named }
 
 -- what stands at a place of a front
 pub slice_get-front : (ns ms : List Node) (i : ℕ) (n : Node) → i < length ns → slice_get (ns ++ ms) i ≡ Some n → slice_get ns i ≡ Some n
@@ -140,8 +140,8 @@ length-Grows old new grows = omega (arith, ap length grows.is, length-append old
 pub KeepsTrees-Grows : (old new : List Node) → Grows old new → KeepsTrees (length old) old new
 KeepsTrees-Grows old new grows id l = ap (λ (ns : List Node). tree_of ns id) grows.is ∙ tree_of-append old grows.added id l
 
-pub KeepsTrees-take : (ns : List Node) (k : ℕ) → k ≤ length ns → KeepsTrees k ns (take k ns)
-KeepsTrees-take ns k le id l =
+pub KeepsTrees-take : (ns : List Node) (k bound : ℕ) → bound ≤ k → bound ≤ length ns → KeepsTrees bound ns (take k ns)
+KeepsTrees-take ns k bound below within id l =
     sym (tree_of-append (take k ns) (drop k ns) id (omega (arith, length-take k ns)))
     ∙ ap (λ (ms : List Node). tree_of ms id) (take-append-drop k ns)
 

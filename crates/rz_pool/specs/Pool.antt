@@ -1,7 +1,8 @@
 -- A pool: nodes that are named by their places, each standing for a tree, no tree twice.
-use Rattle.std.specs.Prelude.{◌≡◌, ℕ, ◌<◌, ◌≤◌, ◌^◌, false, List, [], ◌∷◌, ◌++◌, Some, length, map, All, Contains, slice_get, ◌⊎◌}
+use Rattle.std.specs.Prelude.{◌≡◌, ℕ, ◌<◌, ◌≤◌, ◌^◌, true, false, List, [], ◌∷◌, ◌++◌, Some, length, map, All, Contains, slice_get, ◌⊎◌}
 use Rattle.rz_rules.specs.declared.nodes.Node.{Node}
-use Rattle.rz_rules.specs.Form.{form}
+use Rattle.rz_rules.specs.Form.{form, kid_sorts, is_numbered, is_named}
+use Rattle.rz_rules.specs.File.{IsName}
 use Rattle.rz_rules.specs.Tree.{Tree, sort_of, tree_of}
 
 -- what contracts see of a pool: its nodes, in the order of their ids, and how many more are sure to find memory
@@ -9,12 +10,14 @@ pub record Contents : Type 0 where
   pub nodes : List Node
   pub spare : ℕ
 
--- a node has the form of its kind, and its kids are ids below a bound
+-- a node has the form of its kind: kids of these sorts, ids below a bound, and a number and a name where the kind has one
 pub record HasForm (nodes : List Node) (bound : ℕ) (node : Node) : Type 0 where
   pub kids : All (λ id. id < bound) node.kids
-  pub sorts : map sort_of (map (tree_of nodes) node.kids) ≡ (form node.kind).kids
+  pub sorts : map sort_of (map (tree_of nodes) node.kids) ≡ kid_sorts node.kind
   pub number : node.number < 2 ^ 32
-  pub unnumbered : (form node.kind).numbered ≡ false → node.number ≡ 0
+  pub unnumbered : is_numbered (form node.kind).role ≡ false → node.number ≡ 0
+  pub unnamed : is_named (form node.kind).role ≡ false → node.name ≡ []
+  pub named : is_named (form node.kind).role ≡ true → IsName node.name
 
 -- each node has its form, over the nodes before it
 abbrev pub HaveForms : List Node → Type 0

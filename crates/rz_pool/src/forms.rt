@@ -1,11 +1,41 @@
 //! The test of a node before it is made.
 
-ghost use Rattle.std.specs.Prelude.{◌≡◌, ◌<◌, ◌↔◌, IsTrue, length, map, All};
+ghost use Rattle.std.specs.Prelude.{◌≡◌, ◌<◌, ◌↔◌, [], true, false, IsTrue, length, map, All};
+ghost use Rattle.rz_rules.specs.Form.{is_named};
+ghost use Rattle.rz_rules.specs.File.{IsName, is_white};
 ghost use Rattle.rz_rules.specs.Tree.{sort_of, tree_of};
 ghost use Rattle.rz_pool.specs.Pool.{HasForm};
 
 use crate::pool::Pool;
-use rz_rules::{Node, Sort};
+use rz_rules::{Node, Role, Slot, Sort};
+
+/// Whether a node of this role may have this name, the empty one standing for none.
+fn is_name_for(role: Role, name: &str) -> bool
+    ensures { IsTrue result ↔ ((is_named role ≡ false → name.now ≡ []) × (is_named role ≡ true → IsName name.now)) }
+{
+    if role.is_named() {
+        is_name(name)
+    } else {
+        name.is_empty()
+    }
+}
+
+/// Whether a text is a name.
+fn is_name(text: &str) -> bool
+    ensures { IsTrue result ↔ IsName text.now }
+{
+    let bytes = text.as_bytes();
+    !bytes.is_empty() && is_solid(bytes)
+}
+
+/// Whether no byte is white space.
+fn is_solid(bytes: &[u8]) -> bool
+    ensures { IsTrue result ↔ All (λ byte. is_white byte ≡ false) bytes.now }
+{
+    bytes
+        .iter()
+        .all(|byte| !matches!(*byte, b' ' | b'\t' | b'\n' | b'\r'))
+}
 
 impl Pool {
     /// Whether a node may be made here.
@@ -14,19 +44,20 @@ impl Pool {
     {
         let form = node.kind.form();
         node.number < 1 << 32
-            && (form.numbered || node.number == 0)
+            && (form.role.is_numbered() || node.number == 0)
+            && is_name_for(form.role, node.name.as_str())
             && self.have_sorts(node.kids.as_slice(), form.kids)
     }
 
-    /// Whether these ids are there, and have these sorts, one by one.
-    fn have_sorts(&self, ids: &[u64], sorts: &[Sort]) -> bool
-        ensures { IsTrue result ↔ (All (λ id. id < length self.now.nodes) ids.now × (map sort_of (map (tree_of self.now.nodes) ids.now) ≡ sorts.now)) }
+    /// Whether these ids are there, and have the sorts of these places, one by one.
+    fn have_sorts(&self, ids: &[u64], slots: &[Slot]) -> bool
+        ensures { IsTrue result ↔ (All (λ id. id < length self.now.nodes) ids.now × (map sort_of (map (tree_of self.now.nodes) ids.now) ≡ map (λ slot. slot.sort) slots.now)) }
     {
-        if ids.len() != sorts.len() {
+        if ids.len() != slots.len() {
             return false;
         }
         for (i, id) in ids.iter().enumerate() {
-            if !self.has_sort(*id, sorts[i]) {
+            if !self.has_sort(*id, slots[i].sort) {
                 return false;
             }
         }

@@ -1,6 +1,6 @@
 //! Nodes that are kept once each.
 
-ghost use Rattle.std.specs.Prelude.{◌≡◌, [], Some, ◌+◌, ◌<◌, ◌≤◌, ◌↔◌, ℕ, length, take, slice_get, Contains, IsOk, IfOk, OnOk, OnErr};
+ghost use Rattle.std.specs.Prelude.{IsTrue, ◌≡◌, [], Some, ◌+◌, ◌<◌, ◌≤◌, ◌↔◌, ℕ, length, take, slice_get, Contains, IsOk, IfOk, OnOk, OnErr};
 ghost use Rattle.rz_rules.specs.Tree.{tree_of, tree_over, trees_in};
 ghost use Rattle.rz_pool.specs.Pool.{HasForm, IsPool, Grows, KeepsTrees, Makes};
 
@@ -76,6 +76,15 @@ impl Pool {
         ensures pool { IsPool self.now.nodes }
     {
         &self.nodes.as_slice()[id as usize]
+    }
+
+    /// Whether two ids stand for one tree: they do exactly where they are equal.
+    pub fn are_same(&self, i: u64, j: u64) -> bool
+        ensures same { IsTrue result ↔ (i ≡ j) }
+        ensures pool { IsPool self.now.nodes }
+    {
+        let _ = &self.nodes;
+        i == j
     }
 
     /// How many nodes there are: the ids are the numbers below it.

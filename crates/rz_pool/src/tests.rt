@@ -4,130 +4,184 @@ use std::alloc::Global;
 use std::process::Abort;
 use std::test::Fail;
 
-fn node(rt: &impl Abort, alloc: Global, kind: Kind, number: u64, kids: &[u64]) -> Node {
+/// A node as a row of a table: its kind, its number, its name and its kids.
+type Row = (Kind, u64, &'static str, &'static [u64]);
+
+/// The nodes of the worked rows, with their ids.
+const WORKED: &[(Row, u64)] = &[
+    ((Kind::CubeTwo, 0, "", &[]), 0),
+    ((Kind::Zero, 0, "", &[]), 1),
+    ((Kind::Zero, 0, "", &[]), 1),
+    ((Kind::One, 0, "", &[]), 2),
+    ((Kind::AtMost, 0, "", &[1, 2]), 3),
+];
+
+/// Nodes of which numbers tell two apart, with their ids.
+const NUMBERED: &[(Row, u64)] = &[
+    ((Kind::CubeTwo, 0, "", &[]), 0),
+    ((Kind::PointVariable, 0, "", &[]), 1),
+    ((Kind::PointVariable, 1, "", &[]), 2),
+    ((Kind::AtMost, 0, "", &[1, 2]), 3),
+    ((Kind::EmptyContext, 0, "", &[]), 4),
+    ((Kind::Universe, 0, "", &[]), 5),
+];
+
+/// Nodes that are refused after those.
+const REFUSED: &[Row] = &[
+    (Kind::CubeTwo, 1, "", &[]),
+    (Kind::PointVariable, 1 << 32, "", &[]),
+    (Kind::AtMost, 0, "", &[1]),
+    (Kind::AtMost, 0, "", &[1, 3]),
+    (Kind::AtMost, 0, "", &[1, 6]),
+    (Kind::CubeEntry, 0, "", &[0, 4]),
+    (Kind::Universe, 0, "a", &[]),
+    (Kind::PointVariable, 0, "a", &[]),
+    (Kind::Postulate, 0, "", &[5]),
+    (Kind::Constant, 0, "", &[5, 5]),
+    (Kind::Postulate, 0, "a b", &[5]),
+    (Kind::Postulate, 0, "a\n", &[5]),
+    (Kind::Postulate, 1, "a", &[5]),
+];
+
+/// Nodes of which names tell some apart, with their ids.
+const NAMED: &[(Row, u64)] = &[
+    ((Kind::Universe, 0, "", &[]), 0),
+    ((Kind::Postulate, 0, "a", &[0]), 1),
+    ((Kind::Postulate, 0, "b", &[0]), 2),
+    ((Kind::Postulate, 0, "a", &[0]), 1),
+    ((Kind::Constant, 0, "a", &[0, 0]), 3),
+    ((Kind::Postulate, 0, "Σ-a", &[0]), 4),
+];
+
+/// The node of a row.
+fn node(rt: &impl Abort, alloc: Global, row: Row) -> Result<Node, Fail> {
+    let (kind, number, name, kids) = row;
     assert!(rt; kids.len() <= 7);
-    Node {
+    Ok(Node {
         kind,
         number,
-        name: Name::new(alloc),
+        name: Name::from_text(alloc, name)?,
         kids: Kids::from_slice(kids),
-    }
+    })
 }
 
-fn add(
+/// Makes a node that is accepted.
+fn add(rt: &impl Abort, pool: &mut Pool, node: Node) -> Result<u64, Fail> {
+    assert!(rt; pool.accepts(&node));
+    Ok(pool.make(node)?)
+}
+
+/// Makes the nodes of rows, which get these ids.
+fn add_all(
     rt: &impl Abort,
     alloc: Global,
     pool: &mut Pool,
-    kind: Kind,
-    number: u64,
-    kids: &[u64],
-) -> Result<u64, Fail> {
-    let node = node(rt, alloc, kind, number, kids);
-    assert!(rt; pool.accepts(&node));
-    Ok(pool.make(node)?)
+    rows: &[(Row, u64)],
+) -> Result<(), Fail> {
+    for (row, want) in rows {
+        let node = node(rt, alloc, *row)?;
+        assert_eq!(rt; add(rt, pool, node)?, *want, "{row:?}");
+    }
+    Ok(())
+}
+
+/// A tree of more than 2^1000 nodes, over a tope.
+fn wide_tope(rt: &impl Abort, alloc: Global, pool: &mut Pool, tope: u64) -> Result<u64, Fail> {
+    let mut wide = tope;
+    for _ in 0..1000 {
+        let node = Node {
+            kind: Kind::Disjunction,
+            number: 0,
+            name: Name::new(alloc),
+            kids: Kids::from_slice(&[wide, wide]),
+        };
+        wide = add(rt, pool, node)?;
+    }
+    Ok(wide)
+}
+
+/// A copy of a tree, by its id in the other pool.
+fn copy(rt: &impl Abort, from: &Pool, id: u64, to: &mut Pool) -> Result<u64, Fail> {
+    assert!(rt; id < from.len());
+    Ok(from.copy_to(id, to)?)
+}
+
+/// The two kids of a node of this kind.
+fn two_kids(rt: &impl Abort, pool: &Pool, id: u64, kind: Kind) -> (u64, u64) {
+    assert!(rt; id < pool.len());
+    let node = pool.node(id);
+    assert_eq!(rt; node.kind, kind);
+    let kids = node.kids.as_slice();
+    assert_eq!(rt; kids.len(), 2);
+    (kids[0], kids[1])
+}
+
+/// That the node of an id is this one.
+fn assert_node(rt: &impl Abort, alloc: Global, pool: &Pool, id: u64, row: Row) -> Result<(), Fail> {
+    assert!(rt; id < pool.len());
+    assert!(rt; pool.node(id).is_same(&node(rt, alloc, row)?), "{row:?}");
+    Ok(())
+}
+
+/// A node more, and then back to those before it.
+fn go_back(rt: &impl Abort, alloc: Global, pool: &mut Pool) -> Result<(), Fail> {
+    let mark = pool.mark();
+    assert_eq!(rt; mark, 4);
+    let top = node(rt, alloc, (Kind::Top, 0, "", &[]))?;
+    assert_eq!(rt; add(rt, pool, top)?, 4);
+    assert!(rt; mark <= pool.len());
+    pool.release(mark);
+    assert_eq!(rt; pool.len(), 4);
+    Ok(())
+}
+
+/// The tree `tle p0 p1` in an empty pool, and a large one.
+fn copy_both(rt: &impl Abort, alloc: Global, pool: &mut Pool) -> Result<(), Fail> {
+    let mut other = Pool::new(alloc);
+    let small = copy(rt, pool, 3, &mut other)?;
+    assert_eq!(rt; other.len(), 3);
+    let (low, high) = two_kids(rt, &other, small, Kind::AtMost);
+    assert_node(rt, alloc, &other, low, (Kind::Zero, 0, "", &[]))?;
+    assert_node(rt, alloc, &other, high, (Kind::One, 0, "", &[]))?;
+
+    let wide = wide_tope(rt, alloc, pool, 3)?;
+    let large = copy(rt, pool, wide, &mut other)?;
+    assert_eq!(rt; copy(rt, pool, wide, &mut other)?, large);
+    assert_eq!(rt; other.len(), 1003);
+    Ok(())
 }
 
 #[test]
 fn rows(rt: HostRuntime) -> Result<(), Fail> {
     let alloc = rt.alloc();
     let mut pool = Pool::new(alloc);
-    let made: [(Kind, u64, &[u64], u64); 6] = [
-        (Kind::CubeTwo, 0, &[], 0),
-        (Kind::PointVariable, 0, &[], 1),
-        (Kind::PointVariable, 0, &[], 1),
-        (Kind::PointVariable, 1, &[], 2),
-        (Kind::AtMost, 0, &[1, 2], 3),
-        (Kind::AtMost, 0, &[1, 2], 3),
-    ];
-    for (kind, number, kids, want) in made {
-        assert_eq!(rt; add(&rt, alloc, &mut pool, kind, number, kids)?, want);
-    }
-
-    let mark = pool.mark();
-    assert_eq!(rt; mark, 4);
-    assert_eq!(rt; add(&rt, alloc, &mut pool, Kind::EmptyContext, 0, &[])?, 4);
-    assert!(rt; mark <= pool.len());
-    pool.release(mark);
-    assert_eq!(rt; pool.len(), 4);
-
+    add_all(&rt, alloc, &mut pool, WORKED)?;
+    go_back(&rt, alloc, &mut pool)?;
     pool.reserve(2)?;
-    assert_eq!(rt; add(&rt, alloc, &mut pool, Kind::Or, 0, &[3, 3])?, 4);
-    assert_eq!(rt; add(&rt, alloc, &mut pool, Kind::EmptyContext, 0, &[])?, 5);
-
-    let refused: [(Kind, u64, &[u64]); 6] = [
-        (Kind::CubeTwo, 1, &[]),
-        (Kind::PointVariable, 1 << 32, &[]),
-        (Kind::AtMost, 0, &[1]),
-        (Kind::AtMost, 0, &[1, 3]),
-        (Kind::AtMost, 0, &[1, 6]),
-        (Kind::CubeEntry, 0, &[0, 5]),
-    ];
-    for (kind, number, kids) in refused {
-        assert!(rt;
-            !pool.accepts(&node(&rt, alloc, kind, number, kids)),
-            "{kind:?} {number}"
-        );
+    for kind in [Kind::Top, Kind::Bottom] {
+        let node = node(&rt, alloc, (kind, 0, "", &[]))?;
+        add(&rt, &mut pool, node)?;
     }
-    Ok(())
+    copy_both(&rt, alloc, &mut pool)
 }
 
 #[test]
-fn copies(rt: HostRuntime) -> Result<(), Fail> {
+fn refused_nodes(rt: HostRuntime) -> Result<(), Fail> {
     let alloc = rt.alloc();
     let mut pool = Pool::new(alloc);
-    add(&rt, alloc, &mut pool, Kind::CubeTwo, 0, &[])?;
-    add(&rt, alloc, &mut pool, Kind::PointVariable, 0, &[])?;
-    add(&rt, alloc, &mut pool, Kind::PointVariable, 1, &[])?;
-    let tope = add(&rt, alloc, &mut pool, Kind::AtMost, 0, &[1, 2])?;
-
-    let mut other = Pool::new(alloc);
-    assert!(rt; tope < pool.len());
-    let copy = pool.copy_to(tope, &mut other)?;
-    assert_eq!(rt; other.len(), 3);
-    assert_eq!(rt; copy, 2);
-    let whole = node(&rt, alloc, Kind::AtMost, 0, &[0, 1]);
-    assert!(rt; other.node(2).is_same(&whole));
-    assert!(rt;
-        other
-            .node(0)
-            .is_same(&node(&rt, alloc, Kind::PointVariable, 0, &[]))
-    );
-    assert!(rt;
-        other
-            .node(1)
-            .is_same(&node(&rt, alloc, Kind::PointVariable, 1, &[]))
-    );
-
-    // A tree of more than 2^1000 nodes.
-    let mut wide = tope;
-    for _ in 0..1000 {
-        wide = add(&rt, alloc, &mut pool, Kind::Or, 0, &[wide, wide])?;
+    add_all(&rt, alloc, &mut pool, NUMBERED)?;
+    for row in REFUSED {
+        assert!(rt; !pool.accepts(&node(&rt, alloc, *row)?), "{row:?}");
     }
-    assert!(rt; wide < pool.len());
-    assert_eq!(rt; pool.copy_to(wide, &mut other)?, 1002);
-    assert_eq!(rt; pool.copy_to(wide, &mut other)?, 1002);
-    assert_eq!(rt; other.len(), 1003);
     Ok(())
-}
-
-/// A point variable with a name.
-fn named(alloc: Global, name: &str) -> Result<Node, Fail> {
-    Ok(Node {
-        kind: Kind::PointVariable,
-        number: 0,
-        name: Name::from_text(alloc, name)?,
-        kids: Kids::new(),
-    })
 }
 
 #[test]
 fn names_tell_nodes_apart(rt: HostRuntime) -> Result<(), Fail> {
     let alloc = rt.alloc();
     let mut pool = Pool::new(alloc);
-    for (name, want) in [("a", 0), ("b", 1), ("a", 0), ("", 2)] {
-        let node = named(alloc, name)?;
-        assert!(rt; pool.accepts(&node));
-        assert_eq!(rt; pool.make(node)?, want);
-    }
+    add_all(&rt, alloc, &mut pool, NAMED)?;
+    assert_eq!(rt; pool.len(), 5);
+    assert!(rt; pool.are_same(1, 1) && !pool.are_same(1, 2));
     Ok(())
 }

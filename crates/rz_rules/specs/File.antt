@@ -4,9 +4,10 @@ use Rattle.std.specs.List.{join_with_byte, onto_first, concat}
 use Rattle.std.specs.Str.{IsUtf8}
 use Rattle.std.specs.Fmt.{decimal}
 use Rattle.rz_rules.specs.declared.kinds.Sort.{Sort}
+use Rattle.rz_rules.specs.declared.kinds.Sort.TheVariants.{Term}
 use Rattle.rz_rules.specs.declared.nodes.Node.{Node}
 use Rattle.rz_rules.specs.declared.judgments.Line.{Line}
-use Rattle.rz_rules.specs.Form.{form, word_of_kind, word_of_head, parts_of_head}
+use Rattle.rz_rules.specs.Form.{form, kid_sorts, is_numbered, word_of_kind, word_of_head, parts_of_head}
 use Rattle.rz_rules.specs.Tree.{Tree, sort_of, tree_over}
 use Rattle.rz_rules.specs.Judgment.{Statement, head_of, ids_of, statement}
 use Rattle.rz_rules.specs.Derivation.{Follows}
@@ -20,7 +21,7 @@ pub data Item : Type 0 where
 
 -- the numbers of a node: its own, where its kind has one, and its kids
 abbrev pub numbers_of : Node → List ℕ
-numbers_of node = (if (form node.kind).numbered then node.number ∷ [] else []) ++ node.kids
+numbers_of node = (if is_numbered (form node.kind).role then node.number ∷ [] else []) ++ node.kids
 
 -- the words of an item
 abbrev pub words_of : Item → List (List ℕ)
@@ -61,13 +62,14 @@ after known (ClaimItem name step) = record { trees = known.trees; statements = k
 abbrev pub sorts_at : List Tree → List ℕ → List (Option Sort)
 sorts_at trees ids = map (λ id. option_map sort_of (slice_get trees id)) ids
 
--- nodes stand before steps and claims, and a node's kids before it
+-- nodes stand before steps and claims, and a node's kids before it; terms have no place in a file yet
 pub record NodeFits (known : Known) (node : Node) : Type 0 where
   pub first : (known.statements ≡ []) × (known.claims ≡ 0)
   pub number : node.number < 2 ^ 32
-  pub unnumbered : (form node.kind).numbered ≡ false → node.number ≡ 0
+  pub unnumbered : is_numbered (form node.kind).role ≡ false → node.number ≡ 0
   pub unnamed : node.name ≡ []
-  pub kids : sorts_at known.trees node.kids ≡ map (λ sort. Some sort) (form node.kind).kids
+  pub sort : (form node.kind).sort ≢ Term
+  pub kids : sorts_at known.trees node.kids ≡ map (λ sort. Some sort) (kid_sorts node.kind)
 
 -- steps stand before claims, and a step's premises before it
 pub record StepFits (known : Known) (line : Line) : Type 0 where

@@ -1,6 +1,7 @@
 pub mod Form
 pub mod Kids
 pub mod Tree
+pub mod Substitution
 pub mod Tope
 pub mod Judgment
 pub mod Table

@@ -11,11 +11,11 @@ mod steps;
 mod words;
 
 pub use judgments::{Judgment, Line};
-pub use kinds::{Form, Head, Kind, Sort};
+pub use kinds::{Form, Head, Kind, Role, Slot, Sort, Space};
 pub use lists::{Bytes, Items, Name, Numbers, Places, Values};
 pub use memory::OutOfMemory;
 pub use nodes::{Kids, Node};
-pub use rows::{Row, Symbol};
+pub use rows::{Condition, Row, Symbol};
 pub use steps::Steps;
 pub use words::Worded;
 

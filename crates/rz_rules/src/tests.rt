@@ -1,34 +1,86 @@
 ghost use Rattle.std.specs.Prelude.{◌≡◌, ◌<◌};
 
 use crate::{
-    Bytes, Head, Items, Judgment, Kids, Kind, Line, Name, Node, Numbers, Row, Steps, Symbol, Worded,
+    Bytes, Condition, Head, Items, Judgment, Kids, Kind, Line, Name, Node, Numbers, Row, Sort,
+    Space, Steps, Symbol, Worded,
 };
 use std::alloc::{AllocError, Global};
 use std::marker::Brand;
 use std::sync::ledger::{Blank, Ledger};
 use std::test::Fail;
 
-const KINDS: &[(&str, Kind)] = &[
-    ("c2", Kind::CubeTwo),
-    ("pv", Kind::PointVariable),
-    ("tle", Kind::AtMost),
-    ("tor", Kind::Or),
-    ("nil", Kind::EmptyContext),
-    ("xcube", Kind::CubeEntry),
+/// The word of each kind, its sort, and what its kids are: `I` cube, `s` point, `p` tope, `a` term, `C` context, with
+/// `t.` before what binds a cube variable and `x.` before what binds a term variable.
+const KINDS: &[(&str, Kind, &str, &str)] = &[
+    ("c1", Kind::CubeOne, "I", ""),
+    ("c2", Kind::CubeTwo, "I", ""),
+    ("cx", Kind::Product, "I", "I I"),
+    ("pv", Kind::PointVariable, "s", ""),
+    ("pstar", Kind::OnlyPoint, "s", ""),
+    ("p0", Kind::Zero, "s", ""),
+    ("p1", Kind::One, "s", ""),
+    ("pp", Kind::PointPair, "s", "s s"),
+    ("pl", Kind::PointLeft, "s", "s"),
+    ("pr", Kind::PointRight, "s", "s"),
+    ("ttop", Kind::Top, "p", ""),
+    ("tbot", Kind::Bottom, "p", ""),
+    ("tand", Kind::Conjunction, "p", "p p"),
+    ("tor", Kind::Disjunction, "p", "p p"),
+    ("teq", Kind::EqualPoints, "p", "I s s"),
+    ("tle", Kind::AtMost, "p", "s s"),
+    ("U", Kind::Universe, "a", ""),
+    ("v", Kind::TermVariable, "a", ""),
+    ("const", Kind::Constant, "a", "a a"),
+    ("post", Kind::Postulate, "a", "a"),
+    ("pi", Kind::Pi, "a", "a x.a"),
+    ("lam", Kind::Lambda, "a", "a x.a x.a"),
+    ("app", Kind::Application, "a", "a x.a a a"),
+    ("sig", Kind::Sigma, "a", "a x.a"),
+    ("pair", Kind::Pair, "a", "a x.a a a"),
+    ("fst", Kind::First, "a", "a x.a a"),
+    ("snd", Kind::Second, "a", "a x.a a"),
+    ("id", Kind::Identity, "a", "a a a"),
+    ("refl", Kind::Reflexivity, "a", "a a"),
+    ("J", Kind::IdentityInduction, "a", "a a a a a a"),
+    ("unit", Kind::UnitType, "a", ""),
+    ("star", Kind::Star, "a", ""),
+    ("ext", Kind::Extension, "a", "I t.p t.a t.p t.a"),
+    ("xlam", Kind::ExtensionLambda, "a", "I t.p t.a t.p t.a t.a"),
+    (
+        "xapp",
+        Kind::ExtensionApplication,
+        "a",
+        "I t.p t.a t.p t.a a s",
+    ),
+    ("rec", Kind::RecOr, "a", "a p p a a"),
+    ("abort", Kind::RecBottom, "a", "a"),
+    ("nil", Kind::EmptyContext, "C", ""),
+    ("xcube", Kind::CubeEntry, "C", "C I"),
+    ("xtope", Kind::TopeEntry, "C", "C p"),
+    ("xterm", Kind::TermEntry, "C", "C a"),
 ];
 
 const ROWS: &[(&str, Row, &str)] = &[
     ("ctx-nil", Row::FormNil, "formed nil"),
     ("ctx-cube", Row::FormCube, "formed a formed xcube a b"),
+    ("ctx-tope", Row::FormTope, "formed a formed xtope a f"),
+    ("top", Row::TopHolds, "formed a holds a ttop"),
+    ("le-zero", Row::ZeroAtMost, "formed a holds a tle p0 c"),
+    ("le-one", Row::AtMostOne, "formed a holds a tle c p1"),
     (
         "le-total",
         Row::AtMostTotal,
         "formed a holds a tor tle c d tle d c",
     ),
+    (
+        "le-trans",
+        Row::AtMostTransitive,
+        "holds a tle c d holds a tle d e holds a tle c e",
+    ),
 ];
 
 /// The names of the letters.
-const LETTERS: &[&str] = &["a", "b", "c", "d"];
+const LETTERS: &[&str] = &["a", "b", "c", "d", "e", "f"];
 
 /// The word of a symbol of a text.
 fn word_of(symbol: Symbol) -> &'static str {
@@ -40,6 +92,35 @@ fn word_of(symbol: Symbol) -> &'static str {
         Symbol::Node(kind) => kind.word(),
         Symbol::Says(head) => head.word(),
     }
+}
+
+/// The letter of a sort.
+fn letter_of(sort: Sort) -> &'static str {
+    match sort {
+        Sort::Cube => "I",
+        Sort::Point => "s",
+        Sort::Tope => "p",
+        Sort::Term => "a",
+        Sort::Context => "C",
+    }
+}
+
+/// What the kids of a kind are, in letters.
+fn places(alloc: Global, kind: Kind) -> Result<String, AllocError> {
+    let mut text = String::new(alloc);
+    for slot in kind.form().kids {
+        if !text.is_empty() {
+            text.push(' ')?;
+        }
+        if slot.bound(Space::Points) > 0 {
+            text.push_str("t.")?;
+        }
+        if slot.bound(Space::Terms) > 0 {
+            text.push_str("x.")?;
+        }
+        text.push_str(letter_of(slot.sort))?;
+    }
+    Ok(text)
 }
 
 /// The text of a row in words.
@@ -56,8 +137,11 @@ fn spelled(alloc: Global, row: Row) -> Result<String, AllocError> {
 
 #[test]
 fn words_of_the_tables(rt: HostRuntime) -> Result<(), Fail> {
-    for (word, kind) in KINDS {
+    for (word, kind, sort, kids) in KINDS {
         assert_eq!(rt; kind.word(), *word);
+        assert_eq!(rt; letter_of(kind.form().sort), *sort);
+        let places = places(rt.alloc(), *kind)?;
+        assert_eq!(rt; places.as_str(), *kids);
         assert!(rt; Kind::of_word(word.as_bytes()) == Some(*kind));
     }
     for (word, row, text) in ROWS {
@@ -71,6 +155,20 @@ fn words_of_the_tables(rt: HostRuntime) -> Result<(), Fail> {
     assert!(rt; Kind::of_word(b"c22").is_none());
     assert!(rt; Row::of_word(b"").is_none());
     Ok(())
+}
+
+#[test]
+fn roles_and_conditions(rt: HostRuntime) {
+    for (_, kind, _, _) in KINDS {
+        let role = kind.form().role;
+        let numbered = matches!(*kind, Kind::PointVariable | Kind::TermVariable);
+        let named = matches!(*kind, Kind::Constant | Kind::Postulate);
+        assert_eq!(rt; role.is_numbered(), numbered);
+        assert_eq!(rt; role.is_named(), named);
+    }
+    assert!(rt; Row::FormCube.conditions() == [Condition::FewLeaves(1)].as_slice());
+    assert!(rt; Row::FormTope.conditions() == [Condition::Over(0, 5)].as_slice());
+    assert!(rt; Row::AtMostTotal.conditions().is_empty());
 }
 
 #[test]

@@ -1,30 +1,39 @@
-use Rattle.std.proofs.Common.{◌≡◌, get_or, sym, ap, subst, ◌∙◌, length, map, All, ◌<◌}
+use Rattle.std.proofs.Common.{◌<◌, ℕ, refl, sym, ap, subst, ◌∙◌, length, map, All, arith}
 use Rattle.std.proofs.lemmas.List.{length-map}
-use Rattle.rz_rules.specs.Tree.{tree_at, trees_in}
-use Rattle.rz_rules.specs.Judgment.{statement}
+use Rattle.std.proofs.lemmas.List.Elements.{All-push}
+use Rattle.rz_rules.specs.Tree.{tree_of}
+use Rattle.rz_pool.proofs.Nodes.{length-Grows}
+use Rattle.rz_kernel_rows.specs.Matching.{statements_of}
 use Rattle.rz_kernel.specs.Kept.{known_of}
-use Rattle.rz_kernel.proofs.Adding.{known_added, kids_there, kids_count, places_low}
+use Rattle.rz_kernel.proofs.Adding.{known_added, kids_there, placed_form, lines_live}
 use Rattle.rz_kernel.proofs.kept.Kept.add_node.Goals as goal
 
-pub intern-requires-clause-fine : goal.intern-requires-clause-fine
-intern-requires-clause-fine c =
-    let kids_are : c.places_of-kids.result ≡ map (λ id. get_or c.args.self.now.places.items id 0) c.args.node.kids = rw (← c.deref.ensures.value) c.places_of-kids.ensures in
-    let there = kids_there (known_of c.args.self.now) c.args.node (length c.args.self.now.places.items) c.requires.fits (length-map c.args.self.now.places.items (tree_at (trees_in c.args.self.now.nodes.items))) in
-    record {
-      kids = subst (λ ids. All (λ id. id < length c.args.self.now.nodes.items) ids) (sym kids_are)
-          (places_low c.args.self.now.places.items c.args.node.kids (length c.args.self.now.nodes.items) c.requires.kept.places there);
-      count = ap length kids_are ∙ length-map c.args.node.kids _ ∙ kids_count (known_of c.args.self.now) c.args.node c.requires.fits;
-      unnamed = c.requires.fits.unnamed;
-      unnumbered = c.requires.fits.unnumbered;
-    }
+pub places_of-kids-requires : goal.places_of-kids-requires
+places_of-kids-requires c =
+    rw c.deref.ensures.value
+    (kids_there (known_of c.args.self.now) c.args.node (length c.args.self.now.places.items) c.requires.fits (length-map c.args.self.now.places.items (tree_of c.args.self.now.pool.nodes)))
+
+pub make-requires : goal.make-requires
+make-requires c =
+    placed_form c.args.self.now.pool.nodes c.args.self.now.places.items (known_of c.args.self.now) c.args.node c.places_of-kids.result refl c.requires.kept.places c.requires.fits
+    (rw (← c.deref.ensures.value) c.places_of-kids.ensures)
 
 pub returns-clause-known : goal.returns-clause-known
 returns-clause-known c =
-    let kids_are : c.places_of-kids.result ≡ map (λ id. get_or c.args.self.now.places.items id 0) c.args.node.kids = rw (← c.deref.ensures.value) c.places_of-kids.ensures in
-    let there = kids_there (known_of c.args.self.now) c.args.node (length c.args.self.now.places.items) c.requires.fits (length-map c.args.self.now.places.items (tree_at (trees_in c.args.self.now.nodes.items))) in
-    let added = known_added c.args.self.now.nodes.items c.intern.new.nodes.items c.args.self.now.places.items c.args.self.now.says.items c.args.self.now.claims c.in_ok-place.place
-    c.args.node (record { kind = c.args.node.kind; number = c.args.node.number; name = c.args.node.name; kids = c.places_of-kids.result })
-    c.in_ok-place.ensures.keeps c.requires.kept.places c.requires.kept.says there
-    (ap (λ kids. record { kind = c.args.node.kind; number = c.args.node.number; name = c.args.node.name; kids = kids }) kids_are)
-    c.in_ok-place.ensures.tree in
-    ap (λ places. record { trees = map (tree_at (trees_in c.intern.new.nodes.items)) places; statements = map (statement (trees_in c.intern.new.nodes.items)) c.args.self.now.says.items; claims = c.args.self.now.claims }) c.in_ok-push.ensures.items ∙ added
+    let kept = c.args.self.now in
+    let there = kids_there (known_of kept) c.args.node (length kept.places.items) c.requires.fits (length-map kept.places.items (tree_of kept.pool.nodes)) in
+    let made = c.in_ok-place.ensures in
+    ap (λ places. record { trees = map (tree_of c.make.new.self.nodes) places; statements = statements_of c.make.new.self.nodes kept.lines.items; claims = kept.claims }) c.in_ok-push.ensures.items
+    ∙ known_added kept.pool.nodes c.make.new.self.nodes kept.places.items kept.lines.items kept.claims c.in_ok-place.place c.args.node c.places_of-kids.result made.grows
+    c.requires.kept.places c.requires.kept.lines there (rw (← c.deref.ensures.value) c.places_of-kids.ensures) made.tree
+
+pub returns-clause-kept : goal.returns-clause-kept
+returns-clause-kept c =
+    let kept = c.args.self.now in
+    let made = c.in_ok-place.ensures in
+    let longer = length-Grows kept.pool.nodes c.make.new.self.nodes made.grows in
+    record {
+      places = subst (λ places. All (λ place. place < length c.make.new.self.nodes) places) (sym c.in_ok-push.ensures.items)
+          (All-push (λ (place : ℕ). place < length c.make.new.self.nodes) kept.places.items c.in_ok-place.place (λ k d lt. omega (arith, longer, c.requires.kept.places k d lt)) made.within);
+      lines = lines_live kept.pool.nodes c.make.new.self.nodes longer kept.lines.items c.requires.kept.lines;
+    }

@@ -1,0 +1,316 @@
+//! Points and topes over a context.
+//!
+//! The cube of each point is made in the pool where it isn't there yet, so that cubes are compared by their ids. What
+//! was made is released at the end.
+
+ghost use Rattle.std.specs.Prelude.{◌≡◌, ◌<◌, ◌≤◌, ◌↔◌, [], ◌∷◌, length, IsTrue, Some, IfOk, IfSome, IfNone, map, option_map, option_and_then, slice_get};
+ghost use Rattle.rz_rules.specs.declared.kinds.Sort.TheVariants.{Cube};
+ghost use Rattle.rz_rules.specs.Form.{form};
+ghost use Rattle.rz_rules.specs.Tree.{At, trees_of, tree_of};
+ghost use Rattle.rz_rules.specs.Tope.{product as product_tree, cubes_of as entries_of, cube_of, left_part, right_part, IsOver};
+ghost use Rattle.rz_pool.specs.Pool.{Grows};
+ghost use Rattle.rz_kernel_rows.specs.Scope.{AreCubes, AreKidsOf, IsCubeAt, IsCubeTold, TellCubes, TellOver, IsEntry, IsScope};
+
+use crate::leaves::parts_of;
+use rz_pool::Pool;
+use rz_rules::{Kids, Kind, Name, Node, OutOfMemory};
+use std::alloc::Global;
+
+/// Whether a tope is over a context.
+pub fn is_over(alloc: Global, pool: &mut Pool, context: u64, tope: u64) -> Result<bool, OutOfMemory>
+    requires context { context < length pool.old.nodes }
+    requires tope { tope < length pool.old.nodes }
+    ensures over { IfOk result (λ yes. IsTrue yes ↔ IsOver (entries_of (tree_of pool.old.nodes context)) (tree_of pool.old.nodes tope)) }
+    ensures nodes { pool.new.nodes ≡ pool.old.nodes }
+{
+    let mark = pool.mark();
+    let answer = is_over_with_cubes(alloc, pool, context, tope);
+    pool.release(mark);
+    answer
+}
+
+/// The same, which leaves in the pool what it made there.
+fn is_over_with_cubes(
+    alloc: Global,
+    pool: &mut Pool,
+    context: u64,
+    tope: u64,
+) -> Result<bool, OutOfMemory>
+    requires context { context < length pool.old.nodes }
+    requires tope { tope < length pool.old.nodes }
+    ensures over { IfOk result (λ yes. IsTrue yes ↔ IsOver (entries_of (tree_of pool.old.nodes context)) (tree_of pool.old.nodes tope)) }
+    ensures grows { Grows pool.old.nodes pool.new.nodes }
+{
+    let entries = cubes_of(alloc, pool, context)?;
+    let interval = make_cube(alloc, pool, Kind::CubeTwo, Kids::new())?;
+    let cubes = point_cubes(alloc, pool, &entries, tope)?;
+    let scope = Scope {
+        entries,
+        cubes,
+        interval,
+    };
+    scope.is_tope_over(alloc, pool, tope)
+}
+
+/// The cubes of a context's cube entries, the innermost first.
+fn cubes_of(alloc: Global, pool: &Pool, context: u64) -> Result<Vec<u64>, OutOfMemory>
+    requires { context < length pool.now.nodes }
+    ensures trees { IfOk result (λ cubes. map (tree_of pool.now.nodes) cubes.items ≡ entries_of (tree_of pool.now.nodes context)) }
+    ensures cubes { IfOk result (λ cubes. AreCubes pool.now.nodes cubes.items) }
+{
+    let mut cubes = Vec::new(alloc);
+    let mut at = context;
+    while let Some(entry) = last_entry(pool, at) {
+        if let Some(cube) = entry.cube {
+            cubes.push(cube)?;
+        }
+        at = entry.before;
+    }
+    Ok(cubes)
+}
+
+/// The last entry of a context.
+#[derive(Clone, Copy)]
+struct Entry {
+    /// The context before it.
+    before: u64,
+    /// Its cube, where it is a cube entry.
+    cube: Option<u64>,
+}
+
+/// The last entry of a context; `None` where it has none.
+fn last_entry(pool: &Pool, context: u64) -> Option<Entry>
+    requires { context < length pool.now.nodes }
+    ensures lower { IfSome result (λ entry. entry.before < context) }
+    ensures entry { IfSome result (IsEntry pool.now.nodes context) }
+    ensures none { IfNone result (entries_of (tree_of pool.now.nodes context) ≡ []) }
+{
+    let node = pool.node(context);
+    match node.kind {
+        Kind::CubeEntry => {
+            let (before, cube) = two_kids(&node.kids);
+            Some(Entry {
+                before,
+                cube: Some(cube),
+            })
+        }
+        Kind::TopeEntry => Some(Entry {
+            before: two_kids(&node.kids).0,
+            cube: None,
+        }),
+        Kind::TermEntry => Some(Entry {
+            before: two_kids(&node.kids).0,
+            cube: None,
+        }),
+        _ => None,
+    }
+}
+
+/// The kids of a node that has two.
+pub fn two_kids(kids: &Kids) -> (u64, u64)
+    requires { length kids.now ≡ 2 }
+    ensures { kids.now ≡ result.0 ∷ result.1 ∷ [] }
+{
+    let kids = kids.as_slice();
+    (kids[0], kids[1])
+}
+
+/// The kid of a node that has one.
+fn one_kid(kids: &Kids) -> u64
+    requires { length kids.now ≡ 1 }
+    ensures { kids.now ≡ result ∷ [] }
+{
+    kids.as_slice()[0]
+}
+
+/// The kids of a node that has three.
+fn three_kids(kids: &Kids) -> (u64, u64, u64)
+    requires { length kids.now ≡ 3 }
+    ensures { kids.now ≡ result.0 ∷ result.1 ∷ result.2 ∷ [] }
+{
+    let kids = kids.as_slice();
+    (kids[0], kids[1], kids[2])
+}
+
+/// The id of a cube with these parts.
+fn make_cube(alloc: Global, pool: &mut Pool, kind: Kind, kids: Kids) -> Result<u64, OutOfMemory>
+    requires sort { (form kind).sort ≡ Cube }
+    requires kids { AreKidsOf pool.old.nodes kind kids }
+    ensures cube { IfOk result (IsCubeAt pool.new.nodes) }
+    ensures tree { IfOk result (λ cube. tree_of pool.new.nodes cube ≡ At kind 0 [] (trees_of (map (tree_of pool.old.nodes) kids))) }
+    ensures grows { Grows pool.old.nodes pool.new.nodes }
+{
+    pool.make(Node {
+        kind,
+        number: 0,
+        name: Name::new(alloc),
+        kids,
+    })
+}
+
+/// For each of the first ids, the cube of its point; `None` where it has none.
+fn point_cubes(
+    alloc: Global,
+    pool: &mut Pool,
+    entries: &[u64],
+    count: u64,
+) -> Result<Vec<Option<u64>>, OutOfMemory>
+    requires count { count ≤ length pool.old.nodes }
+    requires entries { AreCubes pool.old.nodes entries.now }
+    ensures count { IfOk result (λ cubes. length cubes.items ≡ count) }
+    ensures told { IfOk result (λ cubes. TellCubes pool.new.nodes entries.now cubes.items) }
+    ensures grows { Grows pool.old.nodes pool.new.nodes }
+{
+    let mut cubes: Vec<Option<u64>> = Vec::new(alloc);
+    for id in 0..count {
+        let cube = point_cube(alloc, pool, entries, &cubes, id)?;
+        cubes.push(cube)?;
+    }
+    Ok(cubes)
+}
+
+/// The cube of a point, where those of the ids below it are told; `None` where it has none.
+fn point_cube(
+    alloc: Global,
+    pool: &mut Pool,
+    entries: &[u64],
+    cubes: &[Option<u64>],
+    id: u64,
+) -> Result<Option<u64>, OutOfMemory>
+    requires there { id < length pool.old.nodes }
+    requires below { id ≡ length cubes.now }
+    requires entries { AreCubes pool.old.nodes entries.now }
+    requires told { TellCubes pool.old.nodes entries.now cubes.now }
+    ensures told { IfOk result (IsCubeTold pool.new.nodes (cube_of (map (tree_of pool.old.nodes) entries.now) (tree_of pool.old.nodes id))) }
+    ensures grows { Grows pool.old.nodes pool.new.nodes }
+{
+    let node = pool.node(id);
+    match node.kind {
+        Kind::PointVariable => Ok(entry_cube(entries, node.number)),
+        Kind::OnlyPoint => Ok(Some(make_cube(alloc, pool, Kind::CubeOne, Kids::new())?)),
+        Kind::Zero => Ok(Some(make_cube(alloc, pool, Kind::CubeTwo, Kids::new())?)),
+        Kind::One => Ok(Some(make_cube(alloc, pool, Kind::CubeTwo, Kids::new())?)),
+        Kind::PointPair => {
+            let (s, u) = two_kids(&node.kids);
+            product_of(alloc, pool, cubes[s as usize], cubes[u as usize])
+        }
+        Kind::PointLeft => Ok(left_of(pool, cubes[one_kid(&node.kids) as usize])),
+        Kind::PointRight => Ok(right_of(pool, cubes[one_kid(&node.kids) as usize])),
+        _ => Ok(None),
+    }
+}
+
+/// The cube of a variable; `None` where there is no such entry.
+fn entry_cube(entries: &[u64], index: u64) -> Option<u64>
+    ensures { result ≡ slice_get entries.now index }
+{
+    entries.get(index as usize).copied()
+}
+
+/// The product of two cubes; `None` where one of them is missing.
+fn product_of(
+    alloc: Global,
+    pool: &mut Pool,
+    left: Option<u64>,
+    right: Option<u64>,
+) -> Result<Option<u64>, OutOfMemory>
+    requires left { IfSome left (IsCubeAt pool.old.nodes) }
+    requires right { IfSome right (IsCubeAt pool.old.nodes) }
+    ensures told { IfOk result (IsCubeTold pool.new.nodes (option_and_then (λ l. option_and_then (λ r. Some (product_tree l r))
+        (option_map (tree_of pool.old.nodes) right)) (option_map (tree_of pool.old.nodes) left))) }
+    ensures grows { Grows pool.old.nodes pool.new.nodes }
+{
+    let (Some(left), Some(right)) = (left, right) else {
+        return Ok(None);
+    };
+    let kids = Kids::from_slice(&[left, right]);
+    Ok(Some(make_cube(alloc, pool, Kind::Product, kids)?))
+}
+
+/// The first part of a product; `None` where there is none.
+fn left_of(pool: &Pool, cube: Option<u64>) -> Option<u64>
+    requires { IfSome cube (IsCubeAt pool.now.nodes) }
+    ensures { IsCubeTold pool.now.nodes (option_and_then left_part (option_map (tree_of pool.now.nodes) cube)) result }
+{
+    let (left, _) = parts_of(pool, cube?)?;
+    Some(left)
+}
+
+/// The last part of a product; `None` where there is none.
+fn right_of(pool: &Pool, cube: Option<u64>) -> Option<u64>
+    requires { IfSome cube (IsCubeAt pool.now.nodes) }
+    ensures { IsCubeTold pool.now.nodes (option_and_then right_part (option_map (tree_of pool.now.nodes) cube)) result }
+{
+    let (_, right) = parts_of(pool, cube?)?;
+    Some(right)
+}
+
+/// What is known of the points over a context.
+#[derive(Drop)]
+struct Scope {
+    /// The cubes of the context's cube entries, the innermost first.
+    entries: Vec<u64>,
+    /// For each of the first ids, the cube of its point; `None` where it has none.
+    cubes: Vec<Option<u64>>,
+    /// The directed interval.
+    interval: u64,
+}
+
+impl Scope {
+    /// Whether a tope is over the context.
+    fn is_tope_over(&self, alloc: Global, pool: &Pool, tope: u64) -> Result<bool, OutOfMemory>
+        requires there { tope < length pool.now.nodes }
+        requires scope { IsScope pool.now.nodes self.now }
+        requires count { tope ≤ length self.now.cubes.items }
+        ensures { IfOk result (λ yes. IsTrue yes ↔ IsOver (map (tree_of pool.now.nodes) self.now.entries.items) (tree_of pool.now.nodes tope)) }
+    {
+        let mut over: Vec<bool> = Vec::new(alloc);
+        for id in 0..tope {
+            let yes = self.is_over_by_kids(pool, &over, id);
+            over.push(yes)?;
+        }
+        Ok(self.is_over_by_kids(pool, &over, tope))
+    }
+
+    /// Whether a tree is a tope over the context, where that is told of the ids below its own.
+    fn is_over_by_kids(&self, pool: &Pool, over: &[bool], id: u64) -> bool
+        requires there { id < length pool.now.nodes }
+        requires scope { IsScope pool.now.nodes self.now }
+        requires count { id ≤ length self.now.cubes.items }
+        requires below { id ≡ length over.now }
+        requires told { TellOver (map (tree_of pool.now.nodes) self.now.entries.items) pool.now.nodes over.now }
+        ensures { IsTrue result ↔ IsOver (map (tree_of pool.now.nodes) self.now.entries.items) (tree_of pool.now.nodes id) }
+    {
+        let node = pool.node(id);
+        match node.kind {
+            Kind::Top => true,
+            Kind::Bottom => true,
+            Kind::Conjunction => {
+                let (p, q) = two_kids(&node.kids);
+                over[p as usize] && over[q as usize]
+            }
+            Kind::Disjunction => {
+                let (p, q) = two_kids(&node.kids);
+                over[p as usize] && over[q as usize]
+            }
+            Kind::EqualPoints => {
+                let (cube, s, u) = three_kids(&node.kids);
+                self.are_of(s, u, cube)
+            }
+            Kind::AtMost => {
+                let (s, u) = two_kids(&node.kids);
+                self.are_of(s, u, self.interval)
+            }
+            _ => false,
+        }
+    }
+
+    /// Whether two points have this cube.
+    fn are_of(&self, s: u64, u: u64, cube: u64) -> bool
+        requires s { s < length self.now.cubes.items }
+        requires u { u < length self.now.cubes.items }
+        ensures { IsTrue result ↔ ((slice_get self.now.cubes.items s ≡ Some (Some cube)) × (slice_get self.now.cubes.items u ≡ Some (Some cube))) }
+    {
+        self.cubes[s as usize] == Some(cube) && self.cubes[u as usize] == Some(cube)
+    }
+}
