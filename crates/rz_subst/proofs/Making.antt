@@ -1,0 +1,323 @@
+-- The answers of the places in a tree, while they are made.
+use Rattle.std.proofs.Common.{◌≡◌, ℕ, ◌<◌, ◌^◌, Bool, true, false, cond, List, [], ◌∷◌, ◌++◌, Option, Some, get_or, length, map, All, Contains, slice_get, unwrap_or, refl, sym, ap, subst, ◌∙◌, ◌⊎◌, inl, inr, true≢false, arith}
+use Rattle.std.proofs.lemmas.List.{length_push, length-map, get_or_append_left}
+use Rattle.std.proofs.lemmas.List.Elements.{All-head, All-tail, All-cons, All-nil, Contains-push, Contains-push_cases, Contains-get_or}
+use Rattle.rz_rules.specs.declared.kinds.Kind.{Kind}
+use Rattle.rz_rules.specs.declared.kinds.Role.{Role}
+use Rattle.rz_rules.specs.declared.kinds.Role.TheVariants.{Variable, Former}
+use Rattle.rz_rules.specs.declared.kinds.Slot.{Slot}
+use Rattle.rz_rules.specs.declared.kinds.Space.{Space}
+use Rattle.rz_rules.specs.declared.nodes.Node.{Node}
+use Rattle.rz_rules.specs.Form.{form, is_numbered}
+use Rattle.rz_rules.specs.Tree.{Tree, Trees, At, Nil, trees_of, sort_of, trees_in, tree_over, tree_of}
+use Rattle.rz_rules.specs.Substitution.{Depth, Changes, Change, Renumbered, Replaced, changed, changed_kids, changed_node, changed_variable, first_slot, other_slots, IndicesBelow}
+use Rattle.rz_pool.specs.Pool.{HasForm, Grows}
+use Rattle.rz_pool.proofs.Nodes.{Grows-same, Grows-trans, length-Grows, KeepsTrees-Grows, slice_get-front}
+use Rattle.rz_subst.specs.declared.walk.Place.{Place}
+use Rattle.rz_subst.specs.declared.walk.Change.TheVariants as answers
+use Rattle.rz_subst.specs.contracts.walk.PlacePartialEq.TheImpl.{eq-value}
+use Rattle.rz_subst.specs.Sorts.{variable_form, sort_changed}
+use Rattle.rz_subst.specs.Walk.{depth_of, kid_place, kid_places, walked, places_below, IsKid, answer, IsFit, AreSettled, IsMade, IsChange, FitsChange, KeepsSorts, new_id}
+use Rattle.rz_subst.proofs.Places.{depth_kid, places_Decides}
+use Rattle.rz_subst.proofs.Listing.{each, settled_weaker}
+
+-- the kids of a place that have their answers
+module _ (made : Place → Option ℕ) (changes : Changes) (nodes : List Node) (place : Place) where
+  new_id-made : (kid : Place) (done : IsMade made changes nodes nodes kid) → new_id made kid ≡ done.id
+  new_id-made kid done = ap (λ (o : Option ℕ). unwrap_or o 0) done.at
+
+  tree_made : (kid : Place) → IsMade made changes nodes nodes kid → tree_of nodes (new_id made kid) ≡ answer changes nodes kid
+  tree_made kid done = ap (tree_of nodes) (new_id-made kid done) ∙ done.tree
+
+  made_trees : (slots : List Slot) (kids : List ℕ) → All (IsMade made changes nodes nodes) (kid_places place slots kids)
+      → trees_of (map (tree_of nodes) (map (new_id made) (kid_places place slots kids))) ≡ changed_kids changes (depth_of place.depth) slots (trees_of (map (tree_of nodes) kids))
+  made_trees slots [] done = refl
+  made_trees slots (kid ∷ kids) done =
+      let P = IsMade made changes nodes nodes in
+      let here = kid_place place (first_slot slots) kid in
+      let rest = kid_places place (other_slots slots) kids in
+      let first : tree_of nodes (new_id made here) ≡ changed changes _ (tree_of nodes kid) =
+      tree_made here (All-head P here rest done) ∙ ap (λ (d : Depth). changed changes d (tree_of nodes kid)) (depth_kid place (first_slot slots) kid) in
+      let others = made_trees (other_slots slots) kids (All-tail P here rest done) in
+      cc
+
+  made_sorts : KeepsSorts changes → (slots : List Slot) (kids : List ℕ) → All (IsMade made changes nodes nodes) (kid_places place slots kids)
+      → map sort_of (map (tree_of nodes) (map (new_id made) (kid_places place slots kids))) ≡ map sort_of (map (tree_of nodes) kids)
+  made_sorts keeps slots [] done = refl
+  made_sorts keeps slots (kid ∷ kids) done =
+      let P = IsMade made changes nodes nodes in
+      let here = kid_place place (first_slot slots) kid in
+      let rest = kid_places place (other_slots slots) kids in
+      let first : sort_of (tree_of nodes (new_id made here)) ≡ sort_of (tree_of nodes kid) =
+      ap sort_of (tree_made here (All-head P here rest done)) ∙ sort_changed changes keeps (depth_of here.depth) (tree_of nodes kid) in
+      let others = made_sorts keeps (other_slots slots) kids (All-tail P here rest done) in
+      cc
+
+  made_live : (slots : List Slot) (kids : List ℕ) → All (IsMade made changes nodes nodes) (kid_places place slots kids)
+      → All (λ id. id < length nodes) (map (new_id made) (kid_places place slots kids))
+  made_live slots [] done = All-nil (λ id. id < length nodes)
+  made_live slots (kid ∷ kids) done =
+      let P = IsMade made changes nodes nodes in
+      let here = kid_place place (first_slot slots) kid in
+      let rest = kid_places place (other_slots slots) kids in
+      let first = All-head P here rest done in
+      let live : new_id made here < length nodes = omega (arith, new_id-made here first, first.within) in
+      All-cons (λ id. id < length nodes) (new_id made here) (map (new_id made) rest) live (made_live (other_slots slots) kids (All-tail P here rest done))
+
+-- the node at a place
+pub record IsNodeAt (nodes : List Node) (place : Place) (node : Node) : Type 0 where
+  pub at : slice_get nodes place.id ≡ Some node
+  pub tree : tree_of nodes place.id ≡ tree_over (trees_in nodes) node
+  pub form : HasForm nodes place.id node
+
+pub IsNodeAt-copy : (nodes : List Node) (place : Place) (node copy : Node) → slice_get nodes place.id ≡ Some node → tree_of nodes place.id ≡ tree_over (trees_in nodes) node
+    → HasForm nodes place.id node → copy ≡ node → IsNodeAt nodes place copy
+IsNodeAt-copy nodes place node copy at tree form same = subst (IsNodeAt nodes place) (sym same) (record { at = at; tree = tree; form = form })
+
+-- as many kids as slots
+length-sorts : (nodes : List Node) (kids : List ℕ) (slots : List Slot) → map sort_of (map (tree_of nodes) kids) ≡ map (λ (slot : Slot). slot.sort) slots → length kids ≡ length slots
+length-sorts nodes kids slots e =
+    sym (length-map kids (tree_of nodes)) ∙ sym (length-map (map (tree_of nodes) kids) sort_of) ∙ ap length e ∙ length-map slots (λ (slot : Slot). slot.sort)
+
+pub enough_slots : (nodes : List Node) (place : Place) (node : Node) → IsNodeAt nodes place node → length node.kids ≡ length (form node.kind).kids
+enough_slots nodes place node known = length-sorts nodes node.kids (form node.kind).kids known.form.sorts
+
+empty_list : (kids : List ℕ) → length kids ≡ 0 → kids ≡ []
+empty_list [] e = refl
+empty_list (kid ∷ kids) e = absurd (omega arith)
+
+fits_change : (change : Change) (kind : Kind) (name : List ℕ) (kids : Trees) → IndicesBelow (2 ^ 32) (changed_variable change kind name kids) → FitsChange change
+fits_change (Renumbered number) kind name kids h = h.0
+fits_change (Replaced tree) kind name kids h = h
+
+fits_number : (new : List Node) (change : Change) (number : ℕ) → IsChange new (answers.Renumbered number) change → FitsChange change → number < 2 ^ 32
+fits_number new (Renumbered other) number is fits = subst (λ n. n < 2 ^ 32) (sym is) fits
+fits_number new (Replaced tree) number is fits = absurd is
+
+renumbered_is : (new : List Node) (change : Change) (number : ℕ) (kind : Kind) (name : List ℕ) (kids : Trees) → IsChange new (answers.Renumbered number) change
+    → At kind number name kids ≡ changed_variable change kind name kids
+renumbered_is new (Renumbered other) number kind name kids is = ap (λ n. At kind n name kids) is
+renumbered_is new (Replaced tree) number kind name kids is = absurd is
+
+replaced_is : (new : List Node) (change : Change) (id : ℕ) (kind : Kind) (name : List ℕ) (kids : Trees) → IsChange new (answers.Replaced id) change
+    → tree_of new id ≡ changed_variable change kind name kids
+replaced_is new (Renumbered other) id kind name kids is = absurd is
+replaced_is new (Replaced tree) id kind name kids is = is.1
+
+-- what becomes of the node at a place
+module _ (changes : Changes) (nodes : List Node) (place : Place) (node : Node) (known : IsNodeAt nodes place node) where
+  abbrev depth : Depth
+  depth = depth_of place.depth
+
+  abbrev kids : Trees
+  kids = trees_of (map (tree_of nodes) node.kids)
+
+  abbrev new_kids : Trees
+  new_kids = changed_kids changes depth (form node.kind).kids kids
+
+  answer_is : (role : Role) → (form node.kind).role ≡ role → answer changes nodes place ≡ changed_node changes depth role node.kind node.number node.name kids new_kids
+  answer_is role e = ap (changed changes depth) known.tree ∙ ap (λ r. changed_node changes depth r node.kind node.number node.name kids new_kids) e
+
+  -- a variable
+  module _ (space : Space) (variable : (form node.kind).role ≡ Variable space) where
+    no_kids : node.kids ≡ []
+    no_kids = empty_list node.kids (enough_slots nodes place node known ∙ ap length (variable_form node.kind space variable).1)
+
+    pub variable_fits : IsFit changes nodes place → FitsChange (changes space depth node.number)
+    variable_fits fit =
+        fits_change (changes space depth node.number) node.kind node.name new_kids (subst (IndicesBelow (2 ^ 32)) (answer_is (Variable space) variable) fit.indices)
+
+    pub renumbered_form : (new : List Node) (number : ℕ) → IsFit changes nodes place → IsChange new (answers.Renumbered number) (changes space depth node.number)
+        → HasForm new (length new) (record { kind = node.kind; number = number; name = node.name; kids = node.kids })
+    renumbered_form new number fit is = record {
+      kids = subst (All (λ id. id < length new)) (sym no_kids) (All-nil (λ id. id < length new));
+      sorts = ap (λ (ids : List ℕ). map sort_of (map (tree_of new) ids)) no_kids ∙ (sym (ap (λ (ids : List ℕ). map sort_of (map (tree_of nodes) ids)) no_kids) ∙ known.form.sorts);
+      number = fits_number new (changes space depth node.number) number is (variable_fits fit);
+      unnumbered = λ e. absurd (true≢false (sym (ap is_numbered variable) ∙ e));
+      unnamed = known.form.unnamed;
+      named = known.form.named;
+    }
+
+    pub renumbered_tree : (new : List Node) (number : ℕ) → IsChange new (answers.Renumbered number) (changes space depth node.number)
+        → tree_over (trees_in new) (record { kind = node.kind; number = number; name = node.name; kids = node.kids }) ≡ answer changes nodes place
+    renumbered_tree new number is =
+        let none : trees_of (map (tree_of new) node.kids) ≡ Nil = ap (λ (ids : List ℕ). trees_of (map (tree_of new) ids)) no_kids in
+        let none_old : new_kids ≡ Nil =
+        ap (λ (ids : List ℕ). changed_kids changes depth (form node.kind).kids (trees_of (map (tree_of nodes) ids))) no_kids in
+        ap (At node.kind number node.name) (none ∙ sym none_old)
+        ∙ renumbered_is new (changes space depth node.number) number node.kind node.name new_kids is
+        ∙ sym (answer_is (Variable space) variable)
+
+    pub replaced_tree : (new : List Node) (id : ℕ) → IsChange new (answers.Replaced id) (changes space depth node.number) → tree_of new id ≡ answer changes nodes place
+    replaced_tree new id is = replaced_is new (changes space depth node.number) id node.kind node.name new_kids is ∙ sym (answer_is (Variable space) variable)
+
+  -- a node whose kids have their answers
+  module _ (made : Place → Option ℕ) (all : (kid : Place) → IsKid nodes place kid → IsMade made changes nodes nodes kid) where
+    pub below_made : All (IsMade made changes nodes nodes) (places_below place node)
+    below_made k d l = all (get_or (places_below place node) k d) (record { node = node; at = known.at; is = Contains-get_or (places_below place node) k d l })
+
+    module _ (former : (form node.kind).role ≡ Former) (ids : List ℕ) (is : ids ≡ map (new_id made) (places_below place node)) where
+      walks : places_below place node ≡ kid_places place (form node.kind).kids node.kids
+      walks = ap (λ (role : Role). walked role (kid_places place (form node.kind).kids node.kids)) former
+
+      kids_made : All (IsMade made changes nodes nodes) (kid_places place (form node.kind).kids node.kids)
+      kids_made = subst (All (IsMade made changes nodes nodes)) walks below_made
+
+      new_ids : ids ≡ map (new_id made) (kid_places place (form node.kind).kids node.kids)
+      new_ids = is ∙ ap (map (new_id made)) walks
+
+      pub remade_form : KeepsSorts changes → HasForm nodes (length nodes) (record { kind = node.kind; number = node.number; name = node.name; kids = ids })
+      remade_form keeps = record {
+        kids = subst (All (λ id. id < length nodes)) (sym new_ids) (made_live made changes nodes place (form node.kind).kids node.kids kids_made);
+        sorts = ap (λ (ks : List ℕ). map sort_of (map (tree_of nodes) ks)) new_ids ∙ (made_sorts made changes nodes place keeps (form node.kind).kids node.kids kids_made ∙ known.form.sorts);
+        number = known.form.number;
+        unnumbered = known.form.unnumbered;
+        unnamed = known.form.unnamed;
+        named = known.form.named;
+      }
+
+      pub remade_tree : tree_over (trees_in nodes) (record { kind = node.kind; number = node.number; name = node.name; kids = ids }) ≡ answer changes nodes place
+      remade_tree =
+          ap (At node.kind node.number node.name) (ap (λ (ks : List ℕ). trees_of (map (tree_of nodes) ks)) new_ids ∙ made_trees made changes nodes place (form node.kind).kids node.kids kids_made)
+          ∙ sym (answer_is Former former)
+
+-- the answers in a pool that has grown
+module _ (made : Place → Option ℕ) (changes later : Changes) (from to : List Node) (grows : Grows from to) (same : later ≡ changes) where
+  answer_kept : (place : Place) → place.id < length from → answer later to place ≡ answer changes from place
+  answer_kept place l =
+      ap (λ (t : Tree). changed later (depth_of place.depth) t) (KeepsTrees-Grows from to grows place.id l)
+      ∙ ap (λ (c : Changes). changed c (depth_of place.depth) (tree_of from place.id)) same
+
+  fit_kept : (place : Place) → IsFit changes from place → IsFit later to place
+  fit_kept place fit = record {
+    live = omega (arith, fit.live, length-Grows from to grows);
+    indices = subst (IndicesBelow (2 ^ 32)) (sym (answer_kept place fit.live)) fit.indices;
+  }
+
+  kid_kept : (place kid : Place) → place.id < length from → IsKid to place kid → IsKid from place kid
+  kid_kept place kid l is = record {
+    node = is.node;
+    at = slice_get-front from grows.added place.id is.node l (subst (λ (ns : List Node). slice_get ns place.id ≡ Some is.node) grows.is is.at);
+    is = is.is;
+  }
+
+  made_kept : (place : Place) → IsMade made changes from to place → IsMade made later to to place
+  made_kept place done = record {
+    live = omega (arith, done.live, length-Grows from to grows);
+    id = done.id;
+    at = done.at;
+    within = done.within;
+    tree = done.tree ∙ sym (answer_kept place done.live);
+  }
+
+  tree_kept : (place : Place) (new : List Node) (id : ℕ) → IsFit changes from place → tree_of new id ≡ answer later to place → tree_of new id ≡ answer changes from place
+  tree_kept place new id fit e = e ∙ answer_kept place fit.live
+
+-- some places are still to be made, each after its kids, and the others have their answers
+pub record IsMaking (made : Place → Option ℕ) (changes : Changes) (from to : List Node) (every places : List Place) : Type 0 where
+  pub done : (place : Place) → Contains every place → Contains places place ⊎ IsMade made changes from to place
+  pub settled : AreSettled from places (IsMade made changes from to)
+  pub fits : All (IsFit changes from) places
+  pub grows : Grows from to
+
+pub IsMaking-start : (made : Place → Option ℕ) (changes : Changes) (from : List Node) (places : List Place) → AreSettled from places (λ _. ⊥) → All (IsFit changes from) places
+    → IsMaking made changes from from places places
+IsMaking-start made changes from places settled fits = record {
+  done = λ place among. inl among;
+  settled = settled_weaker from places (λ _. ⊥) (IsMade made changes from from) (λ q never. absurd never) settled;
+  fits = fits;
+  grows = Grows-same from from refl;
+}
+
+pub IsMaking-end : (made : Place → Option ℕ) (changes : Changes) (from to : List Node) (every places : List Place) → IsMaking made changes from to every places → length places ≡ 0
+    → (place : Place) → Contains every place → IsMade made changes from to place
+IsMaking-end made changes from to every places making none place among =
+    elim (making.done place among) [ inl left ↦ absurd (omega (arith, left.1)) | inr done ↦ done ]
+
+settled_last : (nodes : List Node) (places : List Place) (part : Place) (S : Place → Type 0) → AreSettled nodes (places ++ part ∷ []) S → (kid : Place) → IsKid nodes part kid → S kid
+settled_last nodes [] part S settled kid is = elim (settled.0 kid is) [ inl after ↦ absurd (omega (arith, after.1)) | inr s ↦ s ]
+settled_last nodes (place ∷ places) part S settled kid is = settled_last nodes places part S settled.1 kid is
+
+settled_pop : (nodes : List Node) (places : List Place) (part : Place) (S T : Place → Type 0) → ((q : Place) → S q → T q) → T part
+    → AreSettled nodes (places ++ part ∷ []) S → AreSettled nodes places T
+settled_pop nodes [] part S T more here settled = tt
+settled_pop nodes (place ∷ places) part S T more here settled = (
+  (λ q is. elim (settled.0 q is) [
+    | inl after ↦ elim (Contains-push_cases places part q after) [
+      | inl before ↦ inl before
+      | inr last ↦ inr (subst T last here)
+    ]
+    | inr s ↦ inr (more q s)
+  ]),
+  settled_pop nodes places part S T more here settled.1,
+)
+
+-- the last of the places
+module _ (made : Place → Option ℕ) (changes : Changes) (from to : List Node) (every places : List Place) (part : Place)
+    (making : IsMaking made changes from to every (places ++ part ∷ [])) where
+  last_fits : IsFit changes from part
+  last_fits = each (IsFit changes from) (places ++ part ∷ []) part making.fits (Contains-push places part)
+
+  last_kids : (kid : Place) → IsKid from part kid → IsMade made changes from to kid
+  last_kids kid is = settled_last from places part (IsMade made changes from to) making.settled kid is
+
+  -- it is made
+  module _ (more : Place → Option ℕ) (new : List Node) (id : ℕ) (within : id < length new) (tree : tree_of new id ≡ answer changes from part)
+      (grows : Grows to new) (updates : (q : Place) → more q ≡ cond (eq-value.it part q) (Some id) (made q)) where
+    here : IsMade more changes from new part
+    here = record {
+      live = last_fits.live;
+      id = id;
+      at = updates part ∙ ap (λ b. cond b (Some id) (made part)) ((places_Decides part part).1 refl);
+      within = within;
+      tree = tree;
+    }
+
+    still : (q : Place) → IsMade made changes from to q → IsMade more changes from new q
+    still q done = by (eq-value.it part q) refl
+      where
+        by : (b : Bool) → eq-value.it part q ≡ b → IsMade more changes from new q
+        by true e = subst (IsMade more changes from new) ((places_Decides part q).0 e) here
+        by false e = record {
+          live = done.live;
+          id = done.id;
+          at = updates q ∙ (ap (λ b. cond b (Some id) (made q)) e ∙ done.at);
+          within = omega (arith, done.within, length-Grows to new grows);
+          tree = KeepsTrees-Grows to new grows done.id done.within ∙ done.tree;
+        }
+
+    IsMaking-pop : IsMaking more changes from new every places
+    IsMaking-pop = record {
+      done = λ q among. elim (making.done q among) [
+        | inl listed ↦ elim (Contains-push_cases places part q listed) [
+          | inl before ↦ inl before
+          | inr last ↦ inr (subst (IsMade more changes from new) last here)
+        ]
+        | inr done ↦ inr (still q done)
+      ];
+      settled = settled_pop from places part (IsMade made changes from to) (IsMade more changes from new) still here making.settled;
+      fits = λ k d l. subst (IsFit changes from) (get_or_append_left places (part ∷ []) d k l) (making.fits k d (omega (arith, length_push places part)));
+      grows = Grows-trans from to new making.grows grows;
+    }
+
+-- the last of the places, in the pool as it is by then
+module _ (made : Place → Option ℕ) (changes later : Changes) (from to : List Node) (every all places : List Place) (part : Place)
+    (going : IsMaking made changes from to every all) (popped : all ≡ places ++ part ∷ []) (same : later ≡ changes) where
+  making : IsMaking made changes from to every (places ++ part ∷ [])
+  making = subst (IsMaking made changes from to every) popped going
+
+  fits : IsFit changes from part
+  fits = last_fits made changes from to every places part making
+
+  pub fits_now : IsFit later to part
+  fits_now = fit_kept made changes later from to going.grows same part fits
+
+  pub kids_now : (kid : Place) → IsKid to part kid → IsMade made later to to kid
+  kids_now kid is =
+      made_kept made changes later from to going.grows same kid
+      (last_kids made changes from to every places part making kid (kid_kept made changes later from to going.grows same part kid fits.live is))
+
+  pub made_now : (more : Place → Option ℕ) (new : List Node) (id : ℕ) → id < length new → tree_of new id ≡ answer later to part → Grows to new
+      → ((q : Place) → more q ≡ cond (eq-value.it part q) (Some id) (made q)) → IsMaking more changes from new every places
+  made_now more new id within tree grows updates =
+      IsMaking-pop made changes from to every places part making more new id within (tree_kept made changes later from to going.grows same part new id fits tree) grows updates
