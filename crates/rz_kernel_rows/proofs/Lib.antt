@@ -5,3 +5,4 @@ pub mod Instances
 pub mod Following
 pub mod Cubes
 pub mod Scopes
+pub mod Telling

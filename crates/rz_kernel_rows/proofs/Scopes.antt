@@ -1,18 +1,20 @@
 -- Contexts, points and topes by their ids.
-use Rattle.std.proofs.Common.{◌≡◌, ℕ, suc, ◌<◌, ◌≤◌, Bool, true, false, List, [], ◌∷◌, ◌++◌, length, get_or, take, map, All, Option, Some, None, refl, sym, ap, subst, ◌∙◌, arith, inl, inr}
+use Rattle.std.proofs.Common.{◌≡◌, ℕ, suc, ◌<◌, Bool, true, List, [], ◌∷◌, inl, inr, length, get_or, map, nat_eq, All, Option, Some, None, refl, sym, ap, subst, ◌∙◌, arith}
 use Rattle.std.specs.Prelude.{slice_get, option_map, option_and_then, ◌↔◌}
-use Rattle.std.proofs.lemmas.Bool.{cases_lt}
-use Rattle.std.proofs.lemmas.List.{get_or_append_left, get_or_push, length_push, take_at, nil_from_length}
+use Rattle.std.specs.HashMap.{get}
+use Rattle.std.specs.HashSet.{contains}
+use Rattle.std.proofs.lemmas.List.{nil_from_length}
 use Rattle.rz_rules.specs.declared.kinds.Kind.{Kind}
-use Rattle.rz_rules.specs.declared.kinds.Kind.TheVariants.{PointVariable, OnlyPoint, Zero, One, PointPair, Top, Bottom, Conjunction, Disjunction, EqualPoints, AtMost}
+use Rattle.rz_rules.specs.declared.kinds.Kind.TheVariants.{PointVariable, OnlyPoint, Zero, One, PointPair, Top, Bottom}
 use Rattle.rz_rules.specs.declared.nodes.Node.{Node}
 use Rattle.rz_rules.specs.Form.{form}
 use Rattle.rz_rules.specs.Tree.{Tree, sort_of, tree_of, tree_over, trees_in}
 use Rattle.rz_rules.specs.Tope.{cube_one, cube_two, product, cube_of, IsOver}
-use Rattle.rz_pool.specs.Pool.{HasForm, ShareTrees, Grows}
-use Rattle.rz_pool.proofs.Nodes.{length-Grows, KeepsTrees-Grows}
-use Rattle.rz_kernel_rows.specs.Scope.{IsCubeAt, AreCubes, IsCubeTold, TellCubes, TellOver}
-use Rattle.rz_kernel_rows.proofs.Lists.{slice_get-map, slice_get_is, slice_get_there}
+use Rattle.rz_pool.specs.Pool.{HasForm, Grows}
+use Rattle.rz_pool.proofs.Nodes.{slice_get-front, length-Grows, KeepsTrees-Grows}
+use Rattle.rz_kernel_rows.specs.declared.scope.Scope.{Scope}
+use Rattle.rz_kernel_rows.specs.Scope.{IsCubeAt, AreCubes, IsCubeTold, IsTold, TellsKids, IsScope}
+use Rattle.rz_kernel_rows.proofs.Lists.{slice_get-map, slice_get_is}
 use Rattle.rz_kernel_rows.proofs.Nodes.{tree_with, kids_as, tree_as}
 
 -- ---- growth of the pool
@@ -38,37 +40,41 @@ module _ (ns ms : List Node) (grows : Grows ns ms) where
   IsCubeTold-Grows cube None h = record { there = tt; is = h.is }
   IsCubeTold-Grows cube (Some id) h = record { there = IsCubeAt-Grows id h.there; is = h.is ∙ ap (λ t. Some t) (sym (same_tree id h.there.0)) }
 
-  pub TellCubes-Grows : (entries : List ℕ) (cubes : List (Option ℕ)) → AreCubes ns entries → length cubes ≤ length ns → TellCubes ns entries cubes → TellCubes ms entries cubes
-  TellCubes-Grows entries cubes live few told id d lt =
-      let trees : map (tree_of ms) entries ≡ map (tree_of ns) entries = same_trees entries (λ k e l. (live k e l).0) in
-      let one : tree_of ms id ≡ tree_of ns id = same_tree id (omega arith) in
-      subst (λ (c : Option Tree). IsCubeTold ms c (get_or cubes id d)) (sym (λ i. cube_of (trees i) (one i)))
-      (IsCubeTold-Grows (cube_of (map (tree_of ns) entries) (tree_of ns id)) (get_or cubes id d) (told id d lt))
+  -- the cube of a point stays
+  pub cube_of-Grows : (entries : List ℕ) (id : ℕ) → AreCubes ns entries → id < length ns → cube_of (map (tree_of ms) entries) (tree_of ms id) ≡ cube_of (map (tree_of ns) entries) (tree_of ns id)
+  cube_of-Grows entries id cubes lt = λ i. cube_of (same_trees entries (λ k d l. (cubes k d l).0) i) (same_tree id lt i)
 
--- one id more is told
-pub TellCubes-push : (ns : List Node) (entries : List ℕ) (cubes : List (Option ℕ)) (cube : Option ℕ) (id : ℕ) → id ≡ length cubes
-    → TellCubes ns entries cubes → IsCubeTold ns (cube_of (map (tree_of ns) entries) (tree_of ns id)) cube → TellCubes ns entries (cubes ++ cube ∷ [])
-TellCubes-push ns entries cubes cube id is told last k d lt =
-    elim (cases_lt k (length cubes)) [
-      | inl l ↦ subst (λ (c : Option ℕ). IsCubeTold ns (cube_of (map (tree_of ns) entries) (tree_of ns k)) c) (sym (get_or_append_left cubes (cube ∷ []) d k l)) (told k d l)
-      | inr le ↦
-          let e : length cubes ≡ k = omega (arith, length_push cubes cube) in
-          let same : id ≡ k = is ∙ e in
-          subst (λ (c : Option ℕ). IsCubeTold ns (cube_of (map (tree_of ns) entries) (tree_of ns k)) c) (sym (get_or_push cubes cube d k e))
-          (subst (λ (j : ℕ). IsCubeTold ns (cube_of (map (tree_of ns) entries) (tree_of ns j)) cube) same last)
-    ]
+  -- what is told stays, and what is known
+  pub IsTold-Grows : (entries : List ℕ) (cubes : ℕ → Option ℕ) (over : ℕ → Bool) (id : ℕ) → AreCubes ns entries → IsTold ns entries cubes over id → IsTold ms entries cubes over id
+  IsTold-Grows entries cubes over id are told =
+      let trees : map (tree_of ms) entries ≡ map (tree_of ns) entries = same_trees entries (λ k d l. (are k d l).0) in
+      let one : tree_of ms id ≡ tree_of ns id = same_tree id told.live in
+      record {
+        live = omega (arith, told.live, length-Grows ns ms grows);
+        point = subst (λ (c : Option Tree). IsCubeTold ms c (cubes id)) (sym (cube_of-Grows entries id are told.live))
+            (IsCubeTold-Grows (cube_of (map (tree_of ns) entries) (tree_of ns id)) (cubes id) told.point);
+        tope = subst (λ (t : Tree). (over id ≡ true) ↔ IsOver (map (tree_of ms) entries) t) (sym one)
+            (subst (λ (cs : List Tree). (over id ≡ true) ↔ IsOver cs (tree_of ns id)) (sym trees) told.tope);
+      }
 
-pub TellOver-push : (cubes : List Tree) (ns : List Node) (over : List Bool) (b : Bool) (id : ℕ) → id ≡ length over
-    → TellOver cubes ns over → (b ≡ true) ↔ IsOver cubes (tree_of ns id) → TellOver cubes ns (over ++ b ∷ [])
-TellOver-push cubes ns over b id is told last k lt =
-    elim (cases_lt k (length over)) [
-      | inl l ↦ subst (λ (x : Bool). (x ≡ true) ↔ IsOver cubes (tree_of ns k)) (sym (get_or_append_left over (b ∷ []) false k l)) (told k l)
-      | inr le ↦
-          let e : length over ≡ k = omega (arith, length_push over b) in
-          let same : id ≡ k = is ∙ e in
-          subst (λ (x : Bool). (x ≡ true) ↔ IsOver cubes (tree_of ns k)) (sym (get_or_push over b false k e))
-          (subst (λ (j : ℕ). (b ≡ true) ↔ IsOver cubes (tree_of ns j)) same last)
-    ]
+  pub IsScope-Grows : (scope : Scope) → IsScope ns scope → IsScope ms scope
+  IsScope-Grows scope known = record {
+    entries = AreCubes-Grows scope.entries.items known.entries;
+    interval = omega (arith, known.interval, length-Grows ns ms grows);
+    two = same_tree scope.interval known.interval ∙ known.two;
+    told = λ id. elim (known.told id) [
+      | inl untold ↦ inl untold
+      | inr told ↦ inr (IsTold-Grows scope.entries.items (get nat_eq scope.cubes) (contains nat_eq scope.over) id known.entries told)
+    ];
+  }
+
+  -- an old id has its old node
+  pub old_node : (id : ℕ) (node : Node) → id < length ns → slice_get ms id ≡ Some node → slice_get ns id ≡ Some node
+  old_node id node lt at = slice_get-front ns grows.added id node lt (sym (ap (λ (ns : List Node). slice_get ns id) grows.is) ∙ at)
+
+  pub TellsKids-Grows : (scope : Scope) (id : ℕ) → id < length ns → AreCubes ns scope.entries.items → TellsKids ns scope id → TellsKids ms scope id
+  TellsKids-Grows scope id lt are told node at k d l =
+      IsTold-Grows scope.entries.items (get nat_eq scope.cubes) (contains nat_eq scope.over) (get_or node.kids k d) are (told node (old_node id node lt at) k d l)
 
 -- ---- cubes by their ids
 
@@ -81,33 +87,13 @@ entry_told ns entries index live = told (slice_get entries index) refl where
       let there = slice_get_is entries index id id e in
       record { there = subst (IsCubeAt ns) there.1 (live index id there.0); is = slice_get-map (tree_of ns) entries index ∙ ap (option_map (tree_of ns)) e }
 
--- equal ids are equal cubes
-pub cube_iff : (ns : List Node) (cube : Option Tree) (told : Option ℕ) (id : ℕ) → ShareTrees ns → id < length ns → IsCubeTold ns cube told
-    → (told ≡ Some id) ↔ (cube ≡ Some (tree_of ns id))
-cube_iff ns cube None id shared lt h = (λ e. absurd cc, λ e. let no : None ≡ Some (tree_of ns id) = sym h.is ∙ e in absurd cc)
-cube_iff ns cube (Some other) id shared lt h = (
-  λ e. let same : other ≡ id = cc in h.is ∙ ap (λ (k : ℕ). Some (tree_of ns k)) same,
-  λ e.
-      let both : Some (tree_of ns other) ≡ Some (tree_of ns id) = sym h.is ∙ e in
-      let trees : tree_of ns other ≡ tree_of ns id = cc in
-      ap (λ (k : ℕ). Some k) (shared other id h.there.0 lt trees),
-)
-
--- what was released is what was made
-pub take_Grows : (ns ms : List Node) → Grows ns ms → take (length ns) ms ≡ ns
-take_Grows ns ms grows = ap (take (length ns)) grows.is ∙ take_at ns grows.added (length ns) refl
-
 -- ---- points and topes by their nodes
 
-pub two_low : (m a b : ℕ) (ids : List ℕ) → ids ≡ a ∷ b ∷ [] → All (λ id. id < m) ids → (a < m) × (b < m)
-two_low m a b ids are low =
-    let all = subst (λ (xs : List ℕ). All (λ id. id < m) xs) are low in
+-- what holds of all kids of a node that has two
+pub all_two : (P : ℕ → Type 0) (a b : ℕ) (ids : List ℕ) → ids ≡ a ∷ b ∷ [] → All P ids → P a × P b
+all_two P a b ids are h =
+    let all = subst (λ (xs : List ℕ). All P xs) are h in
     (all 0 0 (omega arith), all 1 0 (omega arith))
-
-pub three_low : (m a b c : ℕ) (ids : List ℕ) → ids ≡ a ∷ b ∷ c ∷ [] → All (λ id. id < m) ids → (a < m) × (b < m) × (c < m)
-three_low m a b c ids are low =
-    let all = subst (λ (xs : List ℕ). All (λ id. id < m) xs) are low in
-    (all 0 0 (omega arith), all 1 0 (omega arith), all 2 0 (omega arith))
 
 module _ (ns : List Node) (cubes : List Tree) (id : ℕ) (n : Node) (is : tree_of ns id ≡ tree_over (trees_in ns) n) (fine : HasForm ns id n) where
   childless : (kind : Kind) → n.kind ≡ kind → length (form kind).kids ≡ 0 → tree_of ns id ≡ tree_with (tree_of ns) kind n.number n.name []
@@ -134,43 +120,3 @@ module _ (ns : List Node) (cubes : List Tree) (id : ℕ) (n : Node) (is : tree_o
 
   pub bottom_over : n.kind ≡ Bottom → IsOver cubes (tree_of ns id)
   bottom_over k = subst (IsOver cubes) (sym (childless Bottom k refl)) tt
-
-  pub conjunction_over : (p q : ℕ) → n.kind ≡ Conjunction → n.kids ≡ p ∷ q ∷ [] → IsOver cubes (tree_of ns id) ↔ (IsOver cubes (tree_of ns p) × IsOver cubes (tree_of ns q))
-  conjunction_over p q k are =
-      let e = tree_as ns id n Conjunction (p ∷ q ∷ []) is k are in
-      (λ h. subst (IsOver cubes) e h, λ h. subst (IsOver cubes) (sym e) h)
-
-  pub disjunction_over : (p q : ℕ) → n.kind ≡ Disjunction → n.kids ≡ p ∷ q ∷ [] → IsOver cubes (tree_of ns id) ↔ (IsOver cubes (tree_of ns p) × IsOver cubes (tree_of ns q))
-  disjunction_over p q k are =
-      let e = tree_as ns id n Disjunction (p ∷ q ∷ []) is k are in
-      (λ h. subst (IsOver cubes) e h, λ h. subst (IsOver cubes) (sym e) h)
-
-  pub equal_over : (cube s u : ℕ) → n.kind ≡ EqualPoints → n.kids ≡ cube ∷ s ∷ u ∷ []
-      → IsOver cubes (tree_of ns id) ↔ ((cube_of cubes (tree_of ns s) ≡ Some (tree_of ns cube)) × (cube_of cubes (tree_of ns u) ≡ Some (tree_of ns cube)))
-  equal_over cube s u k are =
-      let e = tree_as ns id n EqualPoints (cube ∷ s ∷ u ∷ []) is k are in
-      (λ h. subst (IsOver cubes) e h, λ h. subst (IsOver cubes) (sym e) h)
-
-  pub at_most_over : (s u : ℕ) → n.kind ≡ AtMost → n.kids ≡ s ∷ u ∷ []
-      → IsOver cubes (tree_of ns id) ↔ ((cube_of cubes (tree_of ns s) ≡ Some cube_two) × (cube_of cubes (tree_of ns u) ≡ Some cube_two))
-  at_most_over s u k are =
-      let e = tree_as ns id n AtMost (s ∷ u ∷ []) is k are in
-      (λ h. subst (IsOver cubes) e h, λ h. subst (IsOver cubes) (sym e) h)
-
--- what is told of a point's cube, as an equation of trees
-pub told_iff : (ns : List Node) (entries : List ℕ) (cubes : List (Option ℕ)) (s cube : ℕ) → ShareTrees ns → TellCubes ns entries cubes → s < length cubes → cube < length ns
-    → (slice_get cubes s ≡ Some (Some cube)) ↔ (cube_of (map (tree_of ns) entries) (tree_of ns s) ≡ Some (tree_of ns cube))
-told_iff ns entries cubes s cube shared told lt live =
-    let here = slice_get_there cubes s None lt in
-    let iff = cube_iff ns (cube_of (map (tree_of ns) entries) (tree_of ns s)) (get_or cubes s None) cube shared live (told s None lt) in (
-      λ e. let both : Some (get_or cubes s None) ≡ Some (Some cube) = sym here ∙ e in let same : get_or cubes s None ≡ Some cube = cc in iff.0 same,
-      λ e. here ∙ ap (λ (o : Option ℕ). Some o) (iff.1 e),
-    )
-
--- the cube of a point stays while the pool grows
-pub cube_of-Grows : (ns ms : List Node) → Grows ns ms → (entries : List ℕ) (id : ℕ) → AreCubes ns entries → id < length ns
-    → cube_of (map (tree_of ms) entries) (tree_of ms id) ≡ cube_of (map (tree_of ns) entries) (tree_of ns id)
-cube_of-Grows ns ms grows entries id live lt =
-    let trees : map (tree_of ms) entries ≡ map (tree_of ns) entries = same_trees ns ms grows entries (λ k e l. (live k e l).0) in
-    let one : tree_of ms id ≡ tree_of ns id = same_tree ns ms grows id lt in
-    λ i. cube_of (trees i) (one i)

@@ -1,17 +1,16 @@
 -- Each step of a walk keeps what is left to show.
-use Rattle.std.proofs.Common.{◌≡◌, ◌≢◌, ℕ, ◌-◌, ◌<◌, List, [], ◌∷◌, ◌++◌, length, take, drop, map, All, Some, refl, sym, ap, subst, ◌∙◌, arith}
+use Rattle.std.proofs.Common.{◌≡◌, ℕ, ◌-◌, ◌<◌, List, [], ◌∷◌, ◌++◌, length, take, drop, map, All, Some, refl, sym, ap, subst, ◌∙◌, arith}
 use Rattle.std.specs.Prelude.{◌↔◌, reverse}
 use Rattle.std.proofs.lemmas.List.{map-append, reverse-append, reverse-reverse, take_at, drop_at, take-append-drop, length-map, length-reverse, get_or-reverse}
 use Rattle.std.proofs.lemmas.List.Elements.{All-pop, All-push, All-append}
 use Rattle.rz_rules.specs.declared.kinds.Kind.{Kind}
-use Rattle.rz_rules.specs.declared.kinds.Head.{Head}
 use Rattle.rz_rules.specs.declared.rows.Symbol.{Symbol}
-use Rattle.rz_rules.specs.declared.rows.Symbol.TheVariants.{Letter, Node as NodeOf, Says}
+use Rattle.rz_rules.specs.declared.rows.Symbol.TheVariants.{Letter, Node as NodeOf}
 use Rattle.rz_rules.specs.declared.nodes.Node.{Node}
 use Rattle.rz_rules.specs.declared.judgments.Judgment.{Judgment}
 use Rattle.rz_rules.specs.Form.{form}
 use Rattle.rz_rules.specs.Tree.{Tree, Trees, At, trees_of, tree_at, tree_of, tree_over, trees_in}
-use Rattle.rz_rules.specs.Judgment.{Statement, head_of, ids_of, statement}
+use Rattle.rz_rules.specs.Judgment.{Statement, statement}
 use Rattle.rz_rules.specs.Row.{Spelled, spelled}
 use Rattle.rz_kernel_rows.specs.Matching.{Means}
 use Rattle.rz_rules.proofs.Trees.{trees_of_injective}
@@ -57,12 +56,6 @@ module _ (ts : List Tree) (text : List Symbol) (letters : ℕ → Tree) where
           spelled_is (spelled text letters) _ _ others (statements_are (spelled (Letter k ∷ text) letters) (map (tree_at ts) (reverse (expected ++ place ∷ []))) (map (statement ts) rest) h.1),
         )
 
-  pub letter_none : (k : ℕ) (expected : List ℕ) (rest : List Judgment) (found : List (ℕ × ℕ)) → expected ≡ [] → Means ts (Letter k ∷ text) letters expected rest found → ⊥
-  letter_none k expected rest found empty h =
-      let all : letters k ∷ (spelled text letters).trees ≡ [] =
-      trees_are (spelled (Letter k ∷ text) letters) (map (tree_at ts) (reverse expected)) (map (statement ts) rest) h.1 ∙ ap (λ (ps : List ℕ). map (tree_at ts) (reverse ps)) empty in
-      absurd cc
-
   -- a node
   pub node_step : (kind : Kind) (place : ℕ) (kids expected : List ℕ) (rest : List Judgment) (found : List (ℕ × ℕ))
       → tree_at ts place ≡ At kind 0 [] (trees_of (map (tree_at ts) kids)) → length kids ≡ length (form kind).kids
@@ -102,13 +95,6 @@ module _ (ts : List Tree) (text : List Symbol) (letters : ℕ → Tree) where
         let joined = take-append-drop m (spelled text letters).trees in cc in
         (h.0, spelled_is (spelled text letters) _ _ (whole ∙ sym front) (statements_are (spelled (NodeOf kind ∷ text) letters) (map (tree_at ts) (reverse (expected ++ place ∷ []))) (map (statement ts) rest) h.1))
 
-  pub node_none : (kind : Kind) (expected : List ℕ) (rest : List Judgment) (found : List (ℕ × ℕ)) → expected ≡ [] → Means ts (NodeOf kind ∷ text) letters expected rest found → ⊥
-  node_none kind expected rest found empty h =
-      let m = length (form kind).kids in
-      let all : At kind 0 [] (trees_of (take m (spelled text letters).trees)) ∷ drop m (spelled text letters).trees ≡ [] =
-      trees_are (spelled (NodeOf kind ∷ text) letters) (map (tree_at ts) (reverse expected)) (map (statement ts) rest) h.1 ∙ ap (λ (ps : List ℕ). map (tree_at ts) (reverse ps)) empty in
-      absurd cc
-
   pub node_other : (kind other : Kind) (number place : ℕ) (name : List ℕ) (kids : Trees) (expected : List ℕ) (rest : List Judgment) (found : List (ℕ × ℕ))
       → tree_at ts place ≡ At other number name kids → ((other ≡ kind) × (number ≡ 0) × (name ≡ []) → ⊥)
       → Means ts (NodeOf kind ∷ text) letters (expected ++ place ∷ []) rest found → ⊥
@@ -122,59 +108,6 @@ module _ (ts : List Tree) (text : List Symbol) (letters : ℕ → Tree) where
       let zeroed : number ≡ 0 = cc in
       let unnamed : name ≡ [] = cc in
       differs (same, zeroed, unnamed)
-
-  -- a judgment
-  pub judgment_step : (head : Head) (says : Judgment) (expected : List ℕ) (rest : List Judgment) (found : List (ℕ × ℕ)) → head_of says ≡ head → expected ≡ []
-      → Means ts text letters (expected ++ reverse (ids_of says)) rest found ↔ Means ts (Says head ∷ text) letters expected (says ∷ rest) found
-  judgment_step head says expected rest found is empty = (to, back) where
-    parts : map (tree_at ts) (reverse (expected ++ reverse (ids_of says))) ≡ map (tree_at ts) (ids_of says)
-    parts = ap (map (tree_at ts)) (ap (λ (ps : List ℕ). reverse (ps ++ reverse (ids_of says))) empty ∙ reverse-reverse (ids_of says))
-
-    none : map (tree_at ts) (reverse expected) ≡ []
-    none = ap (λ (ps : List ℕ). map (tree_at ts) (reverse ps)) empty
-
-    to : Means ts text letters (expected ++ reverse (ids_of says)) rest found → Means ts (Says head ∷ text) letters expected (says ∷ rest) found
-    to h =
-        let all = trees_are (spelled text letters) (map (tree_at ts) (reverse (expected ++ reverse (ids_of says)))) (map (statement ts) rest) h.1 ∙ parts in
-        let others = statements_are (spelled text letters) (map (tree_at ts) (reverse (expected ++ reverse (ids_of says)))) (map (statement ts) rest) h.1 in
-        let one : record { head = head; parts = (spelled text letters).trees } ≡ statement ts says = λ i. record { head = sym is i; parts = all i } in
-        (h.0, spelled_is (spelled (Says head ∷ text) letters) _ _ (sym none) (joined one others)) where
-          joined : {x y : Statement} {xs ys : List Statement} → x ≡ y → xs ≡ ys → x ∷ xs ≡ y ∷ ys
-          joined p q = cc
-
-    back : Means ts (Says head ∷ text) letters expected (says ∷ rest) found → Means ts text letters (expected ++ reverse (ids_of says)) rest found
-    back h =
-        let said : record { head = head; parts = (spelled text letters).trees } ∷ (spelled text letters).statements ≡ statement ts says ∷ map (statement ts) rest =
-        statements_are (spelled (Says head ∷ text) letters) (map (tree_at ts) (reverse expected)) (map (statement ts) (says ∷ rest)) h.1 in
-        let first = heads_same said in
-        let others = tails_same said in
-        (h.0, spelled_is (spelled text letters) _ _ (ap (λ (x : Statement). x.parts) first ∙ sym parts) others) where
-          heads_same : {x y : Statement} {xs ys : List Statement} → x ∷ xs ≡ y ∷ ys → x ≡ y
-          heads_same e = cc
-
-          tails_same : {x y : Statement} {xs ys : List Statement} → x ∷ xs ≡ y ∷ ys → xs ≡ ys
-          tails_same e = cc
-
-  pub judgment_early : (head : Head) (place : ℕ) (expected : List ℕ) (rest : List Judgment) (found : List (ℕ × ℕ)) → 0 < length expected → Means ts (Says head ∷ text) letters expected rest found → ⊥
-  judgment_early head place expected rest found some h =
-      let none : map (tree_at ts) (reverse expected) ≡ [] = sym (trees_are (spelled (Says head ∷ text) letters) (map (tree_at ts) (reverse expected)) (map (statement ts) rest) h.1) in
-      let count = length-map (reverse expected) (tree_at ts) in
-      absurd (omega (arith, ap length none, count, length-reverse expected))
-
-  pub judgment_none : (head : Head) (expected : List ℕ) (rest : List Judgment) (found : List (ℕ × ℕ)) → rest ≡ [] → Means ts (Says head ∷ text) letters expected rest found → ⊥
-  judgment_none head expected rest found empty h =
-      let said : record { head = head; parts = (spelled text letters).trees } ∷ (spelled text letters).statements ≡ [] =
-      statements_are (spelled (Says head ∷ text) letters) (map (tree_at ts) (reverse expected)) (map (statement ts) rest) h.1 ∙ ap (map (statement ts)) empty in
-      absurd cc
-
-  pub judgment_other : (head : Head) (says : Judgment) (expected : List ℕ) (rest : List Judgment) (found : List (ℕ × ℕ)) → head_of says ≢ head
-      → Means ts (Says head ∷ text) letters expected (says ∷ rest) found → ⊥
-  judgment_other head says expected rest found differs h =
-      let said : record { head = head; parts = (spelled text letters).trees } ∷ (spelled text letters).statements ≡ statement ts says ∷ map (statement ts) rest =
-      statements_are (spelled (Says head ∷ text) letters) (map (tree_at ts) (reverse expected)) (map (statement ts) (says ∷ rest)) h.1 in
-      differs (sym (ap (λ (x : Statement). x.head) (heads_same said))) where
-        heads_same : {x y : Statement} {xs ys : List Statement} → x ∷ xs ≡ y ∷ ys → x ≡ y
-        heads_same e = cc
 
 -- what is expected is there
 All-reverse : (P : ℕ → Type 0) (places : List ℕ) → All P places → All P (reverse places)

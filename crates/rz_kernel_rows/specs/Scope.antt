@@ -1,5 +1,7 @@
 -- What is told of cubes, points and topes by their ids in a pool.
-use Rattle.std.specs.Prelude.{◌≡◌, ℕ, ◌+◌, ◌*◌, ◌<◌, ◌↔◌, Bool, false, IsTrue, List, [], ◌∷◌, length, All, map, Option, Some, None, IfSome, option_map, slice_index_or}
+use Rattle.std.specs.Prelude.{◌≡◌, ℕ, ◌+◌, ◌*◌, ◌<◌, ◌↔◌, ◌⊎◌, nat_eq, Bool, false, IsTrue, List, [], ◌∷◌, length, All, map, Option, Some, None, IfSome, option_map, slice_get}
+use Rattle.std.specs.HashMap.{get}
+use Rattle.std.specs.HashSet.{contains}
 use Rattle.rz_rules.specs.declared.kinds.Sort.TheVariants.{Cube}
 use Rattle.rz_rules.specs.declared.kinds.Kind.{Kind}
 use Rattle.rz_rules.specs.declared.nodes.Node.{Node}
@@ -49,15 +51,6 @@ pub record IsCubeTold (nodes : List Node) (cube : Option Tree) (told : Option �
   pub there : IfSome told (IsCubeAt nodes)
   pub is : cube ≡ option_map (tree_of nodes) told
 
--- for each of the first ids, the cube of its point over the cubes with these ids
-abbrev pub TellCubes : List Node → List ℕ → List (Option ℕ) → Type 0
-TellCubes nodes entries cubes =
-    (id : ℕ) (d : Option ℕ) → id < length cubes → IsCubeTold nodes (cube_of (map (tree_of nodes) entries) (tree_of nodes id)) (slice_index_or cubes id d)
-
--- for each of the first ids, whether its tree is a tope over these cubes
-abbrev pub TellOver : List Tree → List Node → List Bool → Type 0
-TellOver cubes nodes over = (id : ℕ) → id < length over → IsTrue (slice_index_or over id false) ↔ IsOver cubes (tree_of nodes id)
-
 -- a cube in front, where there is one
 abbrev pub with_cube : Option Tree → List Tree → List Tree
 with_cube None cubes = cubes
@@ -68,8 +61,27 @@ pub record IsEntry (nodes : List Node) (context : ℕ) (entry : Entry) : Type 0 
   pub cubes : cubes_of (tree_of nodes context) ≡ with_cube (option_map (tree_of nodes) entry.cube) (cubes_of (tree_of nodes entry.before))
   pub there : IfSome entry.cube (IsCubeAt nodes)
 
--- what is known of the points over a context
+-- all is told of an id: the cube of its point, where it has one, and whether it is a tope over the cubes with these ids
+pub record IsTold (nodes : List Node) (entries : List ℕ) (cubes : ℕ → Option ℕ) (over : ℕ → Bool) (id : ℕ) : Type 0 where
+  pub live : id < length nodes
+  pub point : IsCubeTold nodes (cube_of (map (tree_of nodes) entries) (tree_of nodes id)) (cubes id)
+  pub tope : IsTrue (over id) ↔ IsOver (map (tree_of nodes) entries) (tree_of nodes id)
+
+-- nothing is told of an id
+abbrev pub IsUntold : (ℕ → Option ℕ) → (ℕ → Bool) → ℕ → Type 0
+IsUntold cubes over id = (cubes id ≡ None) × (over id ≡ false)
+
+-- all is told of an id over a context
+abbrev pub Tells : List Node → Scope → ℕ → Type 0
+Tells nodes scope = IsTold nodes scope.entries.items (get nat_eq scope.cubes) (contains nat_eq scope.over)
+
+-- all is told of the kids of an id
+abbrev pub TellsKids : List Node → Scope → ℕ → Type 0
+TellsKids nodes scope id = (node : Node) → slice_get nodes id ≡ Some node → All (Tells nodes scope) node.kids
+
+-- what is known over a context: of each id nothing is told, or all
 pub record IsScope (nodes : List Node) (scope : Scope) : Type 0 where
-  pub told : TellCubes nodes scope.entries.items scope.cubes.items
+  pub entries : AreCubes nodes scope.entries.items
   pub interval : scope.interval < length nodes
   pub two : tree_of nodes scope.interval ≡ cube_two
+  pub told : (id : ℕ) → IsUntold (get nat_eq scope.cubes) (contains nat_eq scope.over) id ⊎ Tells nodes scope id

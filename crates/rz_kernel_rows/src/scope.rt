@@ -1,20 +1,23 @@
 //! Points and topes over a context.
 //!
-//! The cube of each point is made in the pool where it isn't there yet, so that cubes are compared by their ids. What
-//! was made is released at the end.
+//! A tope is judged by its parts, each of which is visited once, after its kids. The cube of each point is made in the
+//! pool where it isn't there yet, so that cubes are compared by their ids. What was made is released at the end.
 
-ghost use Rattle.std.specs.Prelude.{◌≡◌, ◌<◌, ◌≤◌, ◌↔◌, [], ◌∷◌, length, IsTrue, Some, IfOk, IfSome, IfNone, map, option_map, option_and_then, slice_get};
+ghost use Rattle.std.specs.Prelude.{◌≡◌, ℕ, ◌<◌, ◌↔◌, ◌&&◌, if◌then◌else◌, [], ◌∷◌, length, is_some, nat_eq, true, IsTrue, Some, IfOk, IfSome, IfNone, OnOk, map, option_map, option_and_then, slice_get};
+ghost use Rattle.std.specs.HashMap.{get};
+ghost use Rattle.std.specs.HashSet.{contains};
 ghost use Rattle.rz_rules.specs.declared.kinds.Sort.TheVariants.{Cube};
 ghost use Rattle.rz_rules.specs.Form.{form};
 ghost use Rattle.rz_rules.specs.Tree.{At, trees_of, tree_of};
 ghost use Rattle.rz_rules.specs.Tope.{product as product_tree, cubes_of as entries_of, cube_of, left_part, right_part, IsOver};
 ghost use Rattle.rz_pool.specs.Pool.{Grows};
-ghost use Rattle.rz_kernel_rows.specs.Scope.{AreCubes, AreKidsOf, IsCubeAt, IsCubeTold, TellCubes, TellOver, IsEntry, IsScope};
+ghost use Rattle.rz_kernel_rows.specs.Scope.{AreCubes, AreKidsOf, IsCubeAt, IsCubeTold, IsEntry, IsScope, Tells, TellsKids};
 
 use crate::leaves::parts_of;
 use rz_pool::Pool;
 use rz_rules::{Kids, Kind, Name, Node, OutOfMemory};
 use std::alloc::Global;
+use std::collections::{HashMap, HashSet};
 
 /// Whether a tope is over a context.
 pub fn is_over(alloc: Global, pool: &mut Pool, context: u64, tope: u64) -> Result<bool, OutOfMemory>
@@ -41,15 +44,9 @@ fn is_over_with_cubes(
     ensures over { IfOk result (λ yes. IsTrue yes ↔ IsOver (entries_of (tree_of pool.old.nodes context)) (tree_of pool.old.nodes tope)) }
     ensures grows { Grows pool.old.nodes pool.new.nodes }
 {
-    let entries = cubes_of(alloc, pool, context)?;
-    let interval = make_cube(alloc, pool, Kind::CubeTwo, Kids::new())?;
-    let cubes = point_cubes(alloc, pool, &entries, tope)?;
-    let scope = Scope {
-        entries,
-        cubes,
-        interval,
-    };
-    scope.is_tope_over(alloc, pool, tope)
+    let mut scope = Scope::new(alloc, pool, context)?;
+    scope.tell_parts(alloc, pool, tope)?;
+    Ok(scope.over.contains(&tope))
 }
 
 /// The cubes of a context's cube entries, the innermost first.
@@ -148,58 +145,6 @@ fn make_cube(alloc: Global, pool: &mut Pool, kind: Kind, kids: Kids) -> Result<u
     })
 }
 
-/// For each of the first ids, the cube of its point; `None` where it has none.
-fn point_cubes(
-    alloc: Global,
-    pool: &mut Pool,
-    entries: &[u64],
-    count: u64,
-) -> Result<Vec<Option<u64>>, OutOfMemory>
-    requires count { count ≤ length pool.old.nodes }
-    requires entries { AreCubes pool.old.nodes entries.now }
-    ensures count { IfOk result (λ cubes. length cubes.items ≡ count) }
-    ensures told { IfOk result (λ cubes. TellCubes pool.new.nodes entries.now cubes.items) }
-    ensures grows { Grows pool.old.nodes pool.new.nodes }
-{
-    let mut cubes: Vec<Option<u64>> = Vec::new(alloc);
-    for id in 0..count {
-        let cube = point_cube(alloc, pool, entries, &cubes, id)?;
-        cubes.push(cube)?;
-    }
-    Ok(cubes)
-}
-
-/// The cube of a point, where those of the ids below it are told; `None` where it has none.
-fn point_cube(
-    alloc: Global,
-    pool: &mut Pool,
-    entries: &[u64],
-    cubes: &[Option<u64>],
-    id: u64,
-) -> Result<Option<u64>, OutOfMemory>
-    requires there { id < length pool.old.nodes }
-    requires below { id ≡ length cubes.now }
-    requires entries { AreCubes pool.old.nodes entries.now }
-    requires told { TellCubes pool.old.nodes entries.now cubes.now }
-    ensures told { IfOk result (IsCubeTold pool.new.nodes (cube_of (map (tree_of pool.old.nodes) entries.now) (tree_of pool.old.nodes id))) }
-    ensures grows { Grows pool.old.nodes pool.new.nodes }
-{
-    let node = pool.node(id);
-    match node.kind {
-        Kind::PointVariable => Ok(entry_cube(entries, node.number)),
-        Kind::OnlyPoint => Ok(Some(make_cube(alloc, pool, Kind::CubeOne, Kids::new())?)),
-        Kind::Zero => Ok(Some(make_cube(alloc, pool, Kind::CubeTwo, Kids::new())?)),
-        Kind::One => Ok(Some(make_cube(alloc, pool, Kind::CubeTwo, Kids::new())?)),
-        Kind::PointPair => {
-            let (s, u) = two_kids(&node.kids);
-            product_of(alloc, pool, cubes[s as usize], cubes[u as usize])
-        }
-        Kind::PointLeft => Ok(left_of(pool, cubes[one_kid(&node.kids) as usize])),
-        Kind::PointRight => Ok(right_of(pool, cubes[one_kid(&node.kids) as usize])),
-        _ => Ok(None),
-    }
-}
-
 /// The cube of a variable; `None` where there is no such entry.
 fn entry_cube(entries: &[u64], index: u64) -> Option<u64>
     ensures { result ≡ slice_get entries.now index }
@@ -245,40 +190,124 @@ fn right_of(pool: &Pool, cube: Option<u64>) -> Option<u64>
     Some(right)
 }
 
-/// What is known of the points over a context.
+/// Notes the cube of a point, where it has one.
+fn note_cube(cubes: &mut HashMap<u64, u64>, id: u64, cube: Option<u64>) -> Result<(), OutOfMemory>
+    ensures { OnOk result ((q : ℕ) → get nat_eq cubes.new q ≡ (if nat_eq id q && is_some cube then cube else get nat_eq cubes.old q)) }
+{
+    if let Some(cube) = cube {
+        cubes.insert(id, cube)?;
+    }
+    Ok(())
+}
+
+/// Notes a tope, where it is over the context.
+fn note_over(over: &mut HashSet<u64>, id: u64, is_over: bool) -> Result<(), OutOfMemory>
+    ensures { OnOk result ((q : ℕ) → contains nat_eq over.new q ≡ (if nat_eq id q && is_over then true else contains nat_eq over.old q)) }
+{
+    if is_over {
+        over.insert(id)?;
+    }
+    Ok(())
+}
+
+/// What is known over a context so far.
 #[derive(Drop)]
 struct Scope {
     /// The cubes of the context's cube entries, the innermost first.
     entries: Vec<u64>,
-    /// For each of the first ids, the cube of its point; `None` where it has none.
-    cubes: Vec<Option<u64>>,
     /// The directed interval.
     interval: u64,
+    /// The cubes of the points so far that have one.
+    cubes: HashMap<u64, u64>,
+    /// The topes so far that are over the context.
+    over: HashSet<u64>,
 }
 
 impl Scope {
-    /// Whether a tope is over the context.
-    fn is_tope_over(&self, alloc: Global, pool: &Pool, tope: u64) -> Result<bool, OutOfMemory>
-        requires there { tope < length pool.now.nodes }
-        requires scope { IsScope pool.now.nodes self.now }
-        requires count { tope ≤ length self.now.cubes.items }
-        ensures { IfOk result (λ yes. IsTrue yes ↔ IsOver (map (tree_of pool.now.nodes) self.now.entries.items) (tree_of pool.now.nodes tope)) }
+    /// What is known at the start, which is the cubes of the context's entries alone.
+    fn new(alloc: Global, pool: &mut Pool, context: u64) -> Result<Scope, OutOfMemory>
+        requires { context < length pool.old.nodes }
+        ensures scope { IfOk result (IsScope pool.new.nodes) }
+        ensures entries { IfOk result (λ scope. map (tree_of pool.new.nodes) scope.entries.items ≡ entries_of (tree_of pool.old.nodes context)) }
+        ensures grows { Grows pool.old.nodes pool.new.nodes }
     {
-        let mut over: Vec<bool> = Vec::new(alloc);
-        for id in 0..tope {
-            let yes = self.is_over_by_kids(pool, &over, id);
-            over.push(yes)?;
-        }
-        Ok(self.is_over_by_kids(pool, &over, tope))
+        let entries = cubes_of(alloc, pool, context)?;
+        let interval = make_cube(alloc, pool, Kind::CubeTwo, Kids::new())?;
+        Ok(Scope {
+            entries,
+            interval,
+            cubes: HashMap::new(alloc),
+            over: HashSet::new(alloc),
+        })
     }
 
-    /// Whether a tree is a tope over the context, where that is told of the ids below its own.
-    fn is_over_by_kids(&self, pool: &Pool, over: &[bool], id: u64) -> bool
+    /// Tells what a tree and its parts are, each once, the kids before their node.
+    fn tell_parts(&mut self, alloc: Global, pool: &mut Pool, id: u64) -> Result<(), OutOfMemory>
+        requires there { id < length pool.old.nodes }
+        requires scope { IsScope pool.old.nodes self.old }
+        ensures told { OnOk result (Tells pool.new.nodes self.new id) }
+        ensures entries { self.new.entries ≡ self.old.entries }
+        ensures grows { Grows pool.old.nodes pool.new.nodes }
+    {
+        let mut parts = pool.parts(id)?;
+        while let Some(part) = parts.pop() {
+            self.tell(alloc, pool, part)?;
+        }
+        Ok(())
+    }
+
+    /// Tells what a tree is, where that is told of its kids.
+    fn tell(&mut self, alloc: Global, pool: &mut Pool, id: u64) -> Result<(), OutOfMemory>
+        requires there { id < length pool.old.nodes }
+        requires scope { IsScope pool.old.nodes self.old }
+        requires kids { TellsKids pool.old.nodes self.old id }
+        ensures scope { OnOk result (IsScope pool.new.nodes self.new) }
+        ensures told { OnOk result (Tells pool.new.nodes self.new id) }
+        ensures kept { OnOk result ((q : ℕ) → Tells pool.old.nodes self.old q → Tells pool.new.nodes self.new q) }
+        ensures entries { self.new.entries ≡ self.old.entries }
+        ensures grows { Grows pool.old.nodes pool.new.nodes }
+    {
+        let cube = self.point_cube(alloc, pool, id)?;
+        let is_over = self.is_over_by_kids(pool, id);
+        note_cube(&mut self.cubes, id, cube)?;
+        note_over(&mut self.over, id, is_over)?;
+        Ok(())
+    }
+
+    /// The cube of a point, where those of its kids are told; `None` where it has none.
+    fn point_cube(
+        &self,
+        alloc: Global,
+        pool: &mut Pool,
+        id: u64,
+    ) -> Result<Option<u64>, OutOfMemory>
+        requires there { id < length pool.old.nodes }
+        requires entries { AreCubes pool.old.nodes self.now.entries.items }
+        requires kids { TellsKids pool.old.nodes self.now id }
+        ensures told { IfOk result (IsCubeTold pool.new.nodes (cube_of (map (tree_of pool.old.nodes) self.now.entries.items) (tree_of pool.old.nodes id))) }
+        ensures grows { Grows pool.old.nodes pool.new.nodes }
+    {
+        let node = pool.node(id);
+        match node.kind {
+            Kind::PointVariable => Ok(entry_cube(&self.entries, node.number)),
+            Kind::OnlyPoint => Ok(Some(make_cube(alloc, pool, Kind::CubeOne, Kids::new())?)),
+            Kind::Zero => Ok(Some(make_cube(alloc, pool, Kind::CubeTwo, Kids::new())?)),
+            Kind::One => Ok(Some(make_cube(alloc, pool, Kind::CubeTwo, Kids::new())?)),
+            Kind::PointPair => {
+                let (s, u) = two_kids(&node.kids);
+                product_of(alloc, pool, self.cube_at(s), self.cube_at(u))
+            }
+            Kind::PointLeft => Ok(left_of(pool, self.cube_at(one_kid(&node.kids)))),
+            Kind::PointRight => Ok(right_of(pool, self.cube_at(one_kid(&node.kids)))),
+            _ => Ok(None),
+        }
+    }
+
+    /// Whether a tree is a tope over the context, where that is told of its kids.
+    fn is_over_by_kids(&self, pool: &Pool, id: u64) -> bool
         requires there { id < length pool.now.nodes }
         requires scope { IsScope pool.now.nodes self.now }
-        requires count { id ≤ length self.now.cubes.items }
-        requires below { id ≡ length over.now }
-        requires told { TellOver (map (tree_of pool.now.nodes) self.now.entries.items) pool.now.nodes over.now }
+        requires kids { TellsKids pool.now.nodes self.now id }
         ensures { IsTrue result ↔ IsOver (map (tree_of pool.now.nodes) self.now.entries.items) (tree_of pool.now.nodes id) }
     {
         let node = pool.node(id);
@@ -287,11 +316,11 @@ impl Scope {
             Kind::Bottom => true,
             Kind::Conjunction => {
                 let (p, q) = two_kids(&node.kids);
-                over[p as usize] && over[q as usize]
+                self.over.contains(&p) && self.over.contains(&q)
             }
             Kind::Disjunction => {
                 let (p, q) = two_kids(&node.kids);
-                over[p as usize] && over[q as usize]
+                self.over.contains(&p) && self.over.contains(&q)
             }
             Kind::EqualPoints => {
                 let (cube, s, u) = three_kids(&node.kids);
@@ -307,10 +336,15 @@ impl Scope {
 
     /// Whether two points have this cube.
     fn are_of(&self, s: u64, u: u64, cube: u64) -> bool
-        requires s { s < length self.now.cubes.items }
-        requires u { u < length self.now.cubes.items }
-        ensures { IsTrue result ↔ ((slice_get self.now.cubes.items s ≡ Some (Some cube)) × (slice_get self.now.cubes.items u ≡ Some (Some cube))) }
+        ensures { IsTrue result ↔ ((get nat_eq self.now.cubes s ≡ Some cube) × (get nat_eq self.now.cubes u ≡ Some cube)) }
     {
-        self.cubes[s as usize] == Some(cube) && self.cubes[u as usize] == Some(cube)
+        self.cube_at(s) == Some(cube) && self.cube_at(u) == Some(cube)
+    }
+
+    /// The cube of a point so far; `None` where it has none.
+    fn cube_at(&self, id: u64) -> Option<u64>
+        ensures { result ≡ get nat_eq self.now.cubes id }
+    {
+        self.cubes.get(&id).copied()
     }
 }

@@ -54,8 +54,12 @@ impl Pool {
         Ok(copies[&id])
     }
 
-    /// The id and all ids below it, falling.
-    fn parts(&self, id: u64) -> Result<Vec<u64>, OutOfMemory>
+    /// The id and all ids below it, each once, falling.
+    ///
+    /// The contract says that the id is listed, that all listed ids stand for parts of its tree, and
+    /// that each kid of a listed node stands after it. So a walk from the end of the list comes to
+    /// each node after its kids.
+    pub fn parts(&self, id: u64) -> Result<Vec<u64>, OutOfMemory>
         requires { id < length self.now.nodes }
         ensures { IfOk result (λ parts. ListsParts self.now.nodes id parts.items) }
     {

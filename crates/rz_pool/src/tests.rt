@@ -119,7 +119,8 @@ fn two_kids(rt: &impl Abort, pool: &Pool, id: u64, kind: Kind) -> (u64, u64) {
 /// That the node of an id is this one.
 fn assert_node(rt: &impl Abort, alloc: Global, pool: &Pool, id: u64, row: Row) -> Result<(), Fail> {
     assert!(rt; id < pool.len());
-    assert!(rt; pool.node(id).is_same(&node(rt, alloc, row)?), "{row:?}");
+    let want = node(rt, alloc, row)?;
+    assert!(rt; *pool.node(id) == want, "{row:?}");
     Ok(())
 }
 

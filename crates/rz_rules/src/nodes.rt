@@ -137,16 +137,6 @@ pub struct Node {
 }
 
 impl Node {
-    /// Whether the two are equal.
-    pub fn is_same(&self, other: &Node) -> bool
-        ensures { IsTrue result ↔ (self.now ≡ other.now) }
-    {
-        self.kind == other.kind
-            && self.number == other.number
-            && self.name.as_str() == other.name.as_str()
-            && self.kids.as_slice() == other.kids.as_slice()
-    }
-
     /// An equal node.
     pub fn copy(&self, alloc: Global) -> Result<Node, OutOfMemory>
         ensures { IfOk result (λ node. node ≡ self.now) }

@@ -70,9 +70,18 @@ const ZERO: Symbol = Symbol::Node(Kind::Zero);
 
 const ONE: Symbol = Symbol::Node(Kind::One);
 
-const C: Symbol = Symbol::Letter(0);
+/// The letter for a context.
+const CONTEXT: u8 = 0;
 
-const I: Symbol = Symbol::Letter(1);
+/// The letter for a cube.
+const CUBE: u8 = 1;
+
+/// The letter for a tope.
+const TOPE: u8 = 5;
+
+const C: Symbol = Symbol::Letter(CONTEXT);
+
+const I: Symbol = Symbol::Letter(CUBE);
 
 const S: Symbol = Symbol::Letter(2);
 
@@ -80,7 +89,7 @@ const U: Symbol = Symbol::Letter(3);
 
 const W: Symbol = Symbol::Letter(4);
 
-const P: Symbol = Symbol::Letter(5);
+const P: Symbol = Symbol::Letter(TOPE);
 
 pub const FORM_NIL: &[Symbol] = &[
     FORMED, NIL, //
@@ -92,7 +101,7 @@ pub const FORM_CUBE: &[Symbol] = &[
 ];
 
 /// The cube entry is narrow.
-pub const FORM_CUBE_CONDITIONS: &[Condition] = &[Condition::FewLeaves(1)];
+pub const FORM_CUBE_CONDITIONS: &[Condition] = &[Condition::FewLeaves(CUBE)];
 
 pub const FORM_TOPE: &[Symbol] = &[
     FORMED, C, //
@@ -100,7 +109,7 @@ pub const FORM_TOPE: &[Symbol] = &[
 ];
 
 /// The tope entry is over what stands before it.
-pub const FORM_TOPE_CONDITIONS: &[Condition] = &[Condition::Over(0, 5)];
+pub const FORM_TOPE_CONDITIONS: &[Condition] = &[Condition::Over(CONTEXT, TOPE)];
 
 pub const TOP_HOLDS: &[Symbol] = &[
     FORMED, C, //

@@ -1,8 +1,8 @@
 ghost use Rattle.std.specs.Prelude.{◌≡◌, ◌<◌};
 
 use crate::{
-    Bytes, Condition, Head, Items, Judgment, Kids, Kind, Line, Name, Node, Numbers, Row, Sort,
-    Space, Steps, Symbol, Worded,
+    Bytes, Condition, Head, Items, Judgment, Kids, Kind, Line, Name, Node, Numbers, OutOfMemory,
+    Row, Sort, Space, Steps, Symbol, Worded,
 };
 use std::alloc::{AllocError, Global};
 use std::marker::Brand;
@@ -208,7 +208,7 @@ fn nodes_and_lines(rt: HostRuntime) -> Result<(), Fail> {
         kids: Kids::from_slice(&[4, 5]),
     };
     let same = node.copy(alloc)?;
-    assert!(rt; node.is_same(&same));
+    assert!(rt; node == same);
     let mut other = node.kids.copy();
     other.push(6);
     assert_eq!(rt;
@@ -228,6 +228,13 @@ fn nodes_and_lines(rt: HostRuntime) -> Result<(), Fail> {
     let again = line.copy(alloc)?;
     assert!(rt; again.says == says && again.row == line.row);
     assert!(rt; again.from.as_slice() == [2].as_slice());
+    Ok(())
+}
+
+#[test]
+fn want_of_memory_has_a_text(rt: HostRuntime) -> Result<(), Fail> {
+    let text = format!(in rt.alloc(); "{}", OutOfMemory)?;
+    assert_eq!(rt; text.as_str(), "out of memory");
     Ok(())
 }
 

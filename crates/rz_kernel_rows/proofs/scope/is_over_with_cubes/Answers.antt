@@ -1,38 +1,23 @@
-use Rattle.std.proofs.Common.{◌≡◌, ℕ, List, [], map, true, sym, ap, subst, ◌∙◌, arith}
-use Rattle.std.specs.Prelude.{IfOk, ◌↔◌}
-use Rattle.rz_rules.specs.declared.kinds.Kind.TheVariants.{CubeTwo}
-use Rattle.rz_rules.specs.Tree.{Tree, At, trees_of, tree_of}
+use Rattle.std.proofs.Common.{◌≡◌, Bool, true, List, map, sym, ap, subst, ◌∙◌}
+use Rattle.std.specs.Prelude.{◌↔◌}
+use Rattle.rz_rules.specs.Tree.{Tree, tree_of}
 use Rattle.rz_rules.specs.Tope.{cubes_of, IsOver}
-use Rattle.rz_pool.proofs.Nodes.{length-Grows, Grows-trans}
-use Rattle.rz_kernel_rows.specs.Scope.{AreCubes}
-use Rattle.rz_kernel_rows.proofs.Scopes.{AreCubes-Grows, same_tree, same_trees}
+use Rattle.rz_pool.proofs.Nodes.{Grows-trans}
+use Rattle.rz_kernel_rows.proofs.Scopes.{same_tree, same_trees}
 use Rattle.rz_kernel_rows.proofs.scope.is_over_with_cubes.Goals as goal
-
-pub point_cubes-requires-clause-entries : goal.point_cubes-requires-clause-entries
-point_cubes-requires-clause-entries c =
-    subst (AreCubes c.make_cube.new.pool.nodes) (sym c.deref.ensures.value)
-    (AreCubes-Grows c.args.pool.now.nodes c.make_cube.new.pool.nodes c.make_cube.ensures.grows c.in_ok-entries.entries.items c.in_ok-entries.ensures.cubes)
-
-pub is_tope_over-requires-clause-scope : goal.is_tope_over-requires-clause-scope
-is_tope_over-requires-clause-scope c =
-    let ns = c.make_cube.new.pool.nodes in
-    let ms = c.point_cubes.new.pool.nodes in
-    let grows = c.point_cubes.ensures.grows in
-    let made = c.in_ok-interval.ensures in
-    record {
-      told = rw c.deref.ensures.value at c.in_ok-cubes.ensures.told;
-      interval = omega (arith, made.cube.0, length-Grows ns ms grows);
-      two = same_tree ns ms grows c.in_ok-interval.interval made.cube.0 ∙ made.tree
-          ∙ ap (λ (kids : List ℕ). At CubeTwo 0 [] (trees_of (map (tree_of c.args.pool.now.nodes) kids))) c.new.ensures;
-    }
 
 pub returns-clause-over : goal.returns-clause-over
 returns-clause-over c =
     let ns = c.args.pool.now.nodes in
-    let ms = c.point_cubes.new.pool.nodes in
-    let grows = Grows-trans ns c.make_cube.new.pool.nodes ms c.make_cube.ensures.grows c.point_cubes.ensures.grows in
-    let entries = c.in_ok-entries.entries.items in
-    let live = c.in_ok-entries.ensures.cubes in
-    let cubes : map (tree_of ms) entries ≡ cubes_of (tree_of ns c.args.context) = same_trees ns ms grows entries (λ k d lt. (live k d lt).0) ∙ c.in_ok-entries.ensures.trees in
-    subst (λ (cs : List Tree). IfOk c.is_tope_over.result (λ yes. (yes ≡ true) ↔ IsOver cs (tree_of ns c.args.tope))) cubes
-    (subst (λ (t : Tree). IfOk c.is_tope_over.result (λ yes. (yes ≡ true) ↔ IsOver (map (tree_of ms) entries) t)) (same_tree ns ms grows c.args.tope c.requires.tope) c.is_tope_over.ensures)
+    let ms = c.tell_parts.new.pool.nodes in
+    let made = c.in_ok-scope.ensures in
+    let after = c.in_ok-tell_parts.ensures in
+    let cubes : map (tree_of ms) c.tell_parts.new.self.entries.items ≡ cubes_of (tree_of ns c.args.context) =
+    ap (λ es. map (tree_of ms) es.items) after.entries
+    ∙ (same_trees c.new.new.pool.nodes ms after.grows c.in_ok-scope.scope.entries.items (λ k d lt. (made.scope.entries k d lt).0) ∙ made.entries) in
+    let tree : tree_of ms c.args.tope ≡ tree_of ns c.args.tope =
+    same_tree ns ms (Grows-trans ns c.new.new.pool.nodes ms made.grows after.grows) c.args.tope c.requires.tope in
+    let P : Bool → List Tree → Tree → Type 0 = λ yes cs t. (yes ≡ true) ↔ IsOver cs t in
+    subst (λ cs. P c.contains.result cs (tree_of ns c.args.tope)) cubes
+    (subst (λ t. P c.contains.result (map (tree_of ms) c.tell_parts.new.self.entries.items) t) tree
+    (subst (λ yes. P yes (map (tree_of ms) c.tell_parts.new.self.entries.items) (tree_of ms c.args.tope)) (sym c.contains.ensures) after.told.tope))

@@ -1,19 +1,21 @@
-use Rattle.std.proofs.Common.{ℕ, List, [], Option, Some, None, map, sym, ap, subst, ◌∙◌, arith}
+use Rattle.std.proofs.Common.{ℕ, List, [], Option, Some, map, sym, ap, subst, ◌∙◌}
+use Rattle.std.specs.Prelude.{IfOk, option_map, option_and_then, slice_get}
 use Rattle.rz_rules.specs.declared.kinds.Kind.TheVariants.{CubeOne, CubeTwo}
 use Rattle.rz_rules.specs.Tree.{Tree, At, trees_of, tree_of}
-use Rattle.std.specs.Prelude.{IfOk, option_and_then}
 use Rattle.rz_rules.specs.Tope.{cube_of, product}
-use Rattle.rz_kernel_rows.specs.Scope.{IsCubeTold}
-use Rattle.rz_kernel_rows.proofs.Scopes.{entry_told, variable_cube, only_cube, zero_cube, one_cube, pair_cube, two_low}
-use Rattle.rz_kernel_rows.proofs.scope.point_cube.Goals as goal
+use Rattle.rz_kernel_rows.specs.Scope.{IsCubeTold, Tells}
+use Rattle.rz_kernel_rows.proofs.Scopes.{entry_told, variable_cube, only_cube, zero_cube, one_cube, pair_cube, all_two}
+use Rattle.rz_kernel_rows.proofs.scope.Scope.point_cube.Goals as goal
 
 pub returns-in-PointVariable-clause-told : goal.returns-in-PointVariable-clause-told
 returns-in-PointVariable-clause-told c =
     let ns = c.args.pool.now.nodes in
     let n = c.node-node.result.now in
-    let cubes = map (tree_of ns) c.args.entries.now in
-    let told = entry_told ns c.args.entries.now n.number c.requires.entries in
-    subst (λ (o : Option ℕ). IsCubeTold ns (cube_of cubes (tree_of ns c.args.id)) o) (sym c.entry_cube.ensures)
+    let entries = c.args.self.now.entries.items in
+    let cubes = map (tree_of ns) entries in
+    let told = entry_told ns entries n.number c.requires.entries in
+    subst (λ (o : Option ℕ). IsCubeTold ns (cube_of cubes (tree_of ns c.args.id)) o)
+    (sym (c.entry_cube.ensures ∙ ap (λ ids. slice_get ids n.number) c.deref.ensures.value))
     (record { there = told.there; is = variable_cube ns cubes c.args.id n c.node-node.ensures.tree c.node-node.ensures.form c.in-PointVariable.is ∙ told.is })
 
 pub returns-in_ok-make_cube-in-OnlyPoint-clause-told : goal.returns-in_ok-make_cube-in-OnlyPoint-clause-told
@@ -22,7 +24,7 @@ returns-in_ok-make_cube-in-OnlyPoint-clause-told c =
     let made = c.in_ok-make_cube-in-OnlyPoint.ensures in
     record {
       there = made.cube;
-      is = only_cube ns (map (tree_of ns) c.args.entries.now) c.args.id c.node-node.result.now c.node-node.ensures.tree c.node-node.ensures.form c.in-OnlyPoint.is
+      is = only_cube ns (map (tree_of ns) c.args.self.now.entries.items) c.args.id c.node-node.result.now c.node-node.ensures.tree c.node-node.ensures.form c.in-OnlyPoint.is
           ∙ ap (λ (t : Tree). Some t) (sym (made.tree ∙ ap (λ (kids : List ℕ). At CubeOne 0 [] (trees_of (map (tree_of ns) kids))) c.new.ensures));
     }
 
@@ -32,7 +34,7 @@ returns-in_ok-make_cube-in-Zero-clause-told c =
     let made = c.in_ok-make_cube-in-Zero.ensures in
     record {
       there = made.cube;
-      is = zero_cube ns (map (tree_of ns) c.args.entries.now) c.args.id c.node-node.result.now c.node-node.ensures.tree c.node-node.ensures.form c.in-Zero.is
+      is = zero_cube ns (map (tree_of ns) c.args.self.now.entries.items) c.args.id c.node-node.result.now c.node-node.ensures.tree c.node-node.ensures.form c.in-Zero.is
           ∙ ap (λ (t : Tree). Some t) (sym (made.tree ∙ ap (λ (kids : List ℕ). At CubeTwo 0 [] (trees_of (map (tree_of ns) kids))) c.new-in-Zero.ensures));
     }
 
@@ -42,7 +44,7 @@ returns-in_ok-make_cube-in-One-clause-told c =
     let made = c.in_ok-make_cube-in-One.ensures in
     record {
       there = made.cube;
-      is = one_cube ns (map (tree_of ns) c.args.entries.now) c.args.id c.node-node.result.now c.node-node.ensures.tree c.node-node.ensures.form c.in-One.is
+      is = one_cube ns (map (tree_of ns) c.args.self.now.entries.items) c.args.id c.node-node.result.now c.node-node.ensures.tree c.node-node.ensures.form c.in-One.is
           ∙ ap (λ (t : Tree). Some t) (sym (made.tree ∙ ap (λ (kids : List ℕ). At CubeTwo 0 [] (trees_of (map (tree_of ns) kids))) c.new-in-One.ensures));
     }
 
@@ -50,12 +52,12 @@ pub returns-in-PointPair-clause-told : goal.returns-in-PointPair-clause-told
 returns-in-PointPair-clause-told c =
     let ns = c.args.pool.now.nodes in
     let n = c.node-node.result.now in
-    let entries = c.args.entries.now in
+    let scope = c.args.self.now in
     let s = c.two_kids-s.result.0 in
     let u = c.two_kids-s.result.1 in
-    let low = two_low c.args.id s u n.kids c.two_kids-s.ensures c.node-node.ensures.form.kids in
-    let left = (c.requires.told s None (omega (arith, low.0, c.requires.below))).is in
-    let right = (c.requires.told u None (omega (arith, low.1, c.requires.below))).is in
-    let whole = pair_cube ns (map (tree_of ns) entries) c.args.id n c.node-node.ensures.tree c.node-node.ensures.form s u c.in-PointPair.is c.two_kids-s.ensures in
+    let whole = pair_cube ns (map (tree_of ns) scope.entries.items) c.args.id n c.node-node.ensures.tree c.node-node.ensures.form s u c.in-PointPair.is c.two_kids-s.ensures in
+    let told = all_two (Tells ns scope) s u n.kids c.two_kids-s.ensures (c.requires.kids n c.node-node.ensures.node) in
+    let left = told.0.point.is ∙ ap (option_map (tree_of ns)) (sym c.cube_at.ensures) in
+    let right = told.1.point.is ∙ ap (option_map (tree_of ns)) (sym c.cube_at-in-PointPair.ensures) in
     let parts = whole ∙ (λ i. option_and_then (λ l. option_and_then (λ r. Some (product l r)) (right i)) (left i)) in
     subst (λ (o : Option Tree). IfOk c.product_of.result (IsCubeTold c.product_of.new.pool.nodes o)) (sym parts) c.product_of.ensures.told
