@@ -2,7 +2,7 @@
 
 ghost use Rattle.std.specs.Prelude.{◌≡◌, ◌<◌, ◌^◌, length, IfOk, refl};
 ghost use Rattle.rz_rules.specs.Tree.{sort_of, tree_of};
-ghost use Rattle.rz_rules.specs.Substitution.{IndicesBelow, none, only, raising, putting, shift, put, same_space};
+ghost use Rattle.rz_rules.specs.Substitution.{IndicesBelow, none, only, raising, weakened, putting, shift, put, same_space};
 ghost use Rattle.rz_pool.specs.Pool.{Grows};
 ghost use Rattle.rz_subst.specs.Walk.{depth_of, sort_in};
 ghost use Rattle.rz_subst.specs.Sorts.{KeepsSorts-raising, KeepsSorts-putting, kept-putting};
@@ -79,12 +79,27 @@ impl Changing for Putting {
         if number > above {
             return Ok(Change::Renumbered(number - 1));
         }
-        let raising = Raising {
-            from: Counts::NONE,
-            by: depth,
-        };
-        Ok(Change::Replaced(rebuild(alloc, pool, &raising, self.value)?))
+        Ok(Change::Replaced(weaken(alloc, pool, self.value, depth)?))
     }
+}
+
+/// The id of a tree as it is read so much further in.
+fn weaken(alloc: Global, pool: &mut Pool, id: u64, by: Counts) -> Result<u64, OutOfMemory>
+    requires live { id < length pool.old.nodes }
+    requires indices { IndicesBelow (2 ^ 32) (weakened (depth_of by) (tree_of pool.old.nodes id)) }
+    ensures within { IfOk result (λ new. new < length pool.new.nodes) }
+    ensures tree { IfOk result (λ new. tree_of pool.new.nodes new ≡ weakened (depth_of by) (tree_of pool.old.nodes id)) }
+    ensures grows { Grows pool.old.nodes pool.new.nodes }
+{
+    // To rise by nothing changes nothing.
+    if by == Counts::NONE {
+        return Ok(id);
+    }
+    let raising = Raising {
+        from: Counts::NONE,
+        by,
+    };
+    rebuild(alloc, pool, &raising, id)
 }
 
 /// The id of a tree whose variables of a space from an index on have risen.
@@ -100,6 +115,7 @@ pub fn shift(
     requires indices { IndicesBelow (2 ^ 32) (shift space from by (tree_of pool.old.nodes id)) }
     ensures within { IfOk result (λ new. new < length pool.new.nodes) }
     ensures tree { IfOk result (λ new. tree_of pool.new.nodes new ≡ shift space from by (tree_of pool.old.nodes id)) }
+    ensures sort { IfOk result (λ new. sort_of (tree_of pool.new.nodes new) ≡ sort_of (tree_of pool.old.nodes id)) }
     ensures grows { Grows pool.old.nodes pool.new.nodes }
 {
     let raising = Raising {
@@ -123,6 +139,7 @@ pub fn put(
     requires indices { IndicesBelow (2 ^ 32) (put space none (tree_of pool.old.nodes value) (tree_of pool.old.nodes body)) }
     ensures within { IfOk result (λ new. new < length pool.new.nodes) }
     ensures tree { IfOk result (λ new. tree_of pool.new.nodes new ≡ put space none (tree_of pool.old.nodes value) (tree_of pool.old.nodes body)) }
+    ensures sort { IfOk result (λ new. sort_of (tree_of pool.new.nodes new) ≡ sort_of (tree_of pool.old.nodes body)) }
     ensures grows { Grows pool.old.nodes pool.new.nodes }
 {
     rebuild(alloc, pool, &Putting { space, value }, body)

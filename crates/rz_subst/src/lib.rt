@@ -35,6 +35,7 @@ pub fn shift_points(
     requires indices { IndicesBelow (2 ^ 32) (shift Points from by (tree_of pool.old.nodes id)) }
     ensures within { IfOk result (λ new. new < length pool.new.nodes) }
     ensures tree { IfOk result (λ new. tree_of pool.new.nodes new ≡ shift Points from by (tree_of pool.old.nodes id)) }
+    ensures sort { IfOk result (λ new. sort_of (tree_of pool.new.nodes new) ≡ sort_of (tree_of pool.old.nodes id)) }
     ensures grows { Grows pool.old.nodes pool.new.nodes }
     ensures kept { KeepsTrees (length pool.old.nodes) pool.old.nodes pool.new.nodes }
 {
@@ -56,6 +57,7 @@ pub fn shift_terms(
     requires indices { IndicesBelow (2 ^ 32) (shift Terms from by (tree_of pool.old.nodes id)) }
     ensures within { IfOk result (λ new. new < length pool.new.nodes) }
     ensures tree { IfOk result (λ new. tree_of pool.new.nodes new ≡ shift Terms from by (tree_of pool.old.nodes id)) }
+    ensures sort { IfOk result (λ new. sort_of (tree_of pool.new.nodes new) ≡ sort_of (tree_of pool.old.nodes id)) }
     ensures grows { Grows pool.old.nodes pool.new.nodes }
     ensures kept { KeepsTrees (length pool.old.nodes) pool.old.nodes pool.new.nodes }
 {
@@ -72,6 +74,7 @@ pub fn put_point(alloc: Global, pool: &mut Pool, body: u64, point: u64) -> Resul
     requires indices { IndicesBelow (2 ^ 32) (put Points none (tree_of pool.old.nodes point) (tree_of pool.old.nodes body)) }
     ensures within { IfOk result (λ new. new < length pool.new.nodes) }
     ensures tree { IfOk result (λ new. tree_of pool.new.nodes new ≡ put Points none (tree_of pool.old.nodes point) (tree_of pool.old.nodes body)) }
+    ensures sort { IfOk result (λ new. sort_of (tree_of pool.new.nodes new) ≡ sort_of (tree_of pool.old.nodes body)) }
     ensures grows { Grows pool.old.nodes pool.new.nodes }
     ensures kept { KeepsTrees (length pool.old.nodes) pool.old.nodes pool.new.nodes }
 {
@@ -88,6 +91,7 @@ pub fn put_term(alloc: Global, pool: &mut Pool, body: u64, value: u64) -> Result
     requires indices { IndicesBelow (2 ^ 32) (put Terms none (tree_of pool.old.nodes value) (tree_of pool.old.nodes body)) }
     ensures within { IfOk result (λ new. new < length pool.new.nodes) }
     ensures tree { IfOk result (λ new. tree_of pool.new.nodes new ≡ put Terms none (tree_of pool.old.nodes value) (tree_of pool.old.nodes body)) }
+    ensures sort { IfOk result (λ new. sort_of (tree_of pool.new.nodes new) ≡ sort_of (tree_of pool.old.nodes body)) }
     ensures grows { Grows pool.old.nodes pool.new.nodes }
     ensures kept { KeepsTrees (length pool.old.nodes) pool.old.nodes pool.new.nodes }
 {

@@ -5,7 +5,7 @@ ghost use Rattle.std.specs.BTreeSet.{contains};
 ghost use Rattle.std.specs.HashMap.{get};
 ghost use Rattle.rz_rules.specs.declared.nodes.Node.{Node};
 ghost use Rattle.rz_rules.specs.Form.{form};
-ghost use Rattle.rz_rules.specs.Tree.{tree_of};
+ghost use Rattle.rz_rules.specs.Tree.{sort_of, tree_of};
 ghost use Rattle.rz_rules.specs.Substitution.{Changes, IndicesBelow, changed, none, only};
 ghost use Rattle.rz_pool.specs.Pool.{Grows};
 ghost use Rattle.rz_subst.specs.Walk.{depth_of, kid_place, kid_places, top_place, places_below, answer, IsChange, FitsChange, IsFit, KeepsSorts, AreSettled, ListsPlaces, Joined, IsKid, IsMade, new_id};
@@ -210,9 +210,10 @@ fn make_at<C: Changing>(
     ensures tree { IfOk result (λ new. tree_of pool.new.nodes new ≡ answer (C.changes changing.now pool.old.nodes) pool.old.nodes place) }
     ensures grows { Grows pool.old.nodes pool.new.nodes }
 {
-    let mut node = pool.node(place.id).copy(alloc)?;
+    let node = pool.node(place.id);
     match node.kind.form().role {
         Role::Variable(space) => {
+            let mut node = node.copy(alloc)?;
             match changing.variable(alloc, pool, space, place.depth, node.number)? {
                 Change::Renumbered(number) => {
                     node.number = number;
@@ -223,7 +224,8 @@ fn make_at<C: Changing>(
         }
         Role::Declared => Ok(place.id),
         Role::Former => {
-            let below = place.below(alloc, &node)?;
+            let below = place.below(alloc, node)?;
+            let mut node = node.copy(alloc)?;
             node.kids = made_kids(&below, made);
             pool.make(node)
         }
@@ -263,6 +265,7 @@ pub fn rebuild<C: Changing>(
     requires indices { IndicesBelow (2 ^ 32) (changed (C.changes changing.now pool.old.nodes) none (tree_of pool.old.nodes id)) }
     ensures within { IfOk result (λ new. new < length pool.new.nodes) }
     ensures tree { IfOk result (λ new. tree_of pool.new.nodes new ≡ changed (C.changes changing.now pool.old.nodes) none (tree_of pool.old.nodes id)) }
+    ensures sort { IfOk result (λ new. sort_of (tree_of pool.new.nodes new) ≡ sort_of (tree_of pool.old.nodes id)) }
     ensures grows { Grows pool.old.nodes pool.new.nodes }
 {
     let places = places(alloc, pool, id)?;
