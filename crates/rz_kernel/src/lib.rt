@@ -14,4 +14,6 @@ pub use answer::KernelAnswer;
 pub use reading::kernel;
 
 #[cfg(test)]
+mod row_tests;
+#[cfg(test)]
 mod tests;
