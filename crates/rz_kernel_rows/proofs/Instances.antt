@@ -1,12 +1,14 @@
 -- A walk that comes to its end tells whether a line is an instance of its row.
 use Rattle.std.proofs.Common.{◌≡◌, ℕ, zero, suc, ◌<◌, ◌≤◌, Bool, true, false, cond, eqb, List, [], ◌∷◌, ◌++◌, length, get_or, map, All, Contains, Result, Ok, Err, eq-eqb, refl, sym, ap, subst, ◌∙◌, arith}
-use Rattle.std.specs.Prelude.{◌↔◌, reverse, IfOk}
+use Rattle.std.specs.Prelude.{◌↔◌, ◌&&◌, reverse, IfOk}
+use Rattle.std.specs.List.{list_all, list_any}
 use Rattle.std.proofs.lemmas.Bool.{eqb-true}
+use Rattle.std.proofs.lemmas.Map.Views.{Contains-from_any}
 use Rattle.std.proofs.lemmas.List.{length-map, length-reverse, nil_from_length, get_or-map}
 use Rattle.std.proofs.lemmas.List.Elements.{All-cons, All-nil, All-weaker}
 use Rattle.rz_rules.specs.declared.memory.OutOfMemory.{OutOfMemory}
 use Rattle.rz_rules.specs.declared.rows.Row.{Row}
-use Rattle.rz_rules.specs.declared.rows.Row.TheVariants.{FormNil, FormCube, FormTope, TopHolds, ZeroAtMost, AtMostOne, AtMostTotal, AtMostTransitive}
+use Rattle.rz_rules.specs.declared.rows.Row.TheVariants.{FormNil}
 use Rattle.rz_rules.specs.declared.rows.Symbol.{Symbol}
 use Rattle.rz_rules.specs.declared.rows.Symbol.TheVariants.{Letter}
 use Rattle.rz_rules.specs.declared.rows.Condition.{Condition}
@@ -94,21 +96,33 @@ condition_same f g (Over context tope) same met =
 conditions_same : (f g : ℕ → Tree) (conditions : List Condition) → All (λ condition. All (λ letter. f letter ≡ g letter) (letters_of condition)) conditions → All (IsMet f) conditions → All (IsMet g) conditions
 conditions_same f g conditions same met k d lt = condition_same f g (get_or conditions k d) (same k d lt) (met k d lt)
 
--- each letter of a row's conditions stands in its text
-pub row_names : (row : Row) → All (Names (letters_in (text_of row))) (conditions_of row)
-row_names FormNil = All-nil _
-row_names FormCube = All-cons (Names letters) (FewLeaves 1) [] (All-cons (Contains letters) 1 [] (2, omega arith, refl) (All-nil (Contains letters))) (All-nil (Names letters)) where
-  letters : List ℕ
-  letters = 0 ∷ 0 ∷ 1 ∷ []
-row_names FormTope =
-    All-cons (Names letters) (Over 0 5) [] (All-cons (Contains letters) 0 (5 ∷ []) (0, omega arith, refl) (All-cons (Contains letters) 5 [] (2, omega arith, refl) (All-nil (Contains letters)))) (All-nil (Names letters)) where
-      letters : List ℕ
-      letters = 0 ∷ 0 ∷ 5 ∷ []
-row_names TopHolds = All-nil _
-row_names ZeroAtMost = All-nil _
-row_names AtMostOne = All-nil _
-row_names AtMostTotal = All-nil _
-row_names AtMostTransitive = All-nil _
+-- whether each letter of a condition is among these, computed
+abbrev has_letters : List ℕ → Condition → Bool
+has_letters letters condition = list_all (λ letter. list_any (eqb letter) letters) (letters_of condition)
+
+both_true : (a b : Bool) → (a && b) ≡ true → (a ≡ true) × (b ≡ true)
+both_true true b e = (refl, e)
+both_true false b e = cc
+
+all_true : {X : Type 0} (test : X → Bool) (Is : X → Type 0) → ((x : X) → test x ≡ true → Is x) → (xs : List X) → list_all test xs ≡ true → All Is xs
+all_true test Is by [] e = All-nil Is
+all_true test Is by (x ∷ xs) e =
+    let parts = both_true (test x) (list_all test xs) e in
+    All-cons Is x xs (by x parts.0) (all_true test Is by xs parts.1)
+
+-- in each row they stand in its text
+row_has_letters : (row : Row) → list_all (has_letters (letters_in (text_of row))) (conditions_of row) ≡ true
+row_has_letters FormNil = refl
+row_has_letters row = refl
+
+named : (letters : List ℕ) (condition : Condition) → has_letters letters condition ≡ true → Names letters condition
+named letters condition =
+    all_true (λ letter. list_any (eqb letter) letters) (Contains letters) (λ letter has. Contains-from_any eqb-true letter letters has) (letters_of condition)
+
+row_names : (row : Row) → All (Names (letters_in (text_of row))) (conditions_of row)
+row_names row =
+    let letters = letters_in (text_of row) in
+    all_true (has_letters letters) (Names letters) (named letters) (conditions_of row) (row_has_letters row)
 
 -- each letter of the conditions was met
 pub names_met : (ns : List Node) (row : Row) (found : List (ℕ × ℕ)) → letters_met found ≡ letters_in (text_of row) → All (Names (letters_met found)) (conditions_of row)
