@@ -91,11 +91,7 @@ fn last_entry(pool: &Pool, context: u64) -> Option<Entry>
                 cube: Some(cube),
             })
         }
-        Kind::TopeEntry => Some(Entry {
-            before: two_kids(&node.kids).0,
-            cube: None,
-        }),
-        Kind::TermEntry => Some(Entry {
+        Kind::TopeEntry | Kind::TermEntry => Some(Entry {
             before: two_kids(&node.kids).0,
             cube: None,
         }),
