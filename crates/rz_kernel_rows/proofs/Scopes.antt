@@ -1,11 +1,11 @@
 -- Contexts, points and topes by their ids.
-use Rattle.std.proofs.Common.{◌≡◌, ℕ, suc, ◌<◌, Bool, true, List, [], ◌∷◌, inl, inr, length, get_or, map, nat_eq, All, Option, Some, None, refl, sym, ap, subst, ◌∙◌, arith}
-use Rattle.std.specs.Prelude.{slice_get, option_map, option_and_then, ◌↔◌}
+use Rattle.std.proofs.Common.{◌≡◌, ℕ, suc, ◌<◌, Bool, true, false, true≢false, List, [], ◌∷◌, inl, inr, ◌⊎◌, length, get_or, map, nat_eq, All, Option, Some, None, refl, sym, ap, subst, ◌∙◌, arith}
+use Rattle.std.specs.Prelude.{◌&&◌, slice_get, option_map, option_and_then, ◌↔◌}
 use Rattle.std.specs.HashMap.{get}
 use Rattle.std.specs.HashSet.{contains}
 use Rattle.std.proofs.lemmas.List.{nil_from_length}
 use Rattle.rz_rules.specs.declared.kinds.Kind.{Kind}
-use Rattle.rz_rules.specs.declared.kinds.Kind.TheVariants.{PointVariable, OnlyPoint, Zero, One, PointPair, Top, Bottom}
+use Rattle.rz_rules.specs.declared.kinds.Kind.TheVariants.{PointVariable, OnlyPoint, Zero, One, PointPair, Top, Bottom, Conjunction, Disjunction}
 use Rattle.rz_rules.specs.declared.nodes.Node.{Node}
 use Rattle.rz_rules.specs.Form.{form}
 use Rattle.rz_rules.specs.Tree.{Tree, sort_of, tree_of, tree_over, trees_in}
@@ -13,7 +13,7 @@ use Rattle.rz_rules.specs.Tope.{cube_one, cube_two, product, cube_of, IsOver}
 use Rattle.rz_pool.specs.Pool.{HasForm, Grows}
 use Rattle.rz_pool.proofs.Nodes.{slice_get-front, length-Grows, KeepsTrees-Grows}
 use Rattle.rz_kernel_rows.specs.declared.scope.Scope.{Scope}
-use Rattle.rz_kernel_rows.specs.Scope.{IsCubeAt, AreCubes, IsCubeTold, IsTold, TellsKids, IsScope}
+use Rattle.rz_kernel_rows.specs.Scope.{IsCubeAt, AreCubes, IsCubeTold, IsTold, Tells, TellsKids, IsScope}
 use Rattle.rz_kernel_rows.proofs.Lists.{slice_get-map, slice_get_is}
 use Rattle.rz_kernel_rows.proofs.Nodes.{tree_with, kids_as, tree_as}
 
@@ -95,6 +95,11 @@ all_two P a b ids are h =
     let all = subst (λ (xs : List ℕ). All P xs) are h in
     (all 0 0 (omega arith), all 1 0 (omega arith))
 
+-- two tests together tell what each of them tells
+and_told : (a b r : Bool) (P Q : Type 0) → (a ≡ true) ↔ P → (b ≡ true) ↔ Q → r ≡ (a && b) → (r ≡ true) ↔ (P × Q)
+and_told true b r P Q p q e = (λ is. (p.0 refl, q.0 (sym e ∙ is)), λ both. e ∙ q.1 both.1)
+and_told false b r P Q p q e = (λ is. absurd (true≢false (sym is ∙ e)), λ both. absurd (true≢false (sym (p.1 both.0))))
+
 module _ (ns : List Node) (cubes : List Tree) (id : ℕ) (n : Node) (is : tree_of ns id ≡ tree_over (trees_in ns) n) (fine : HasForm ns id n) where
   childless : (kind : Kind) → n.kind ≡ kind → length (form kind).kids ≡ 0 → tree_of ns id ≡ tree_with (tree_of ns) kind n.number n.name []
   childless kind k none = tree_as ns id n kind [] is k (nil_from_length n.kids (kids_as ns id n kind fine k ∙ none))
@@ -105,18 +110,34 @@ module _ (ns : List Node) (cubes : List Tree) (id : ℕ) (n : Node) (is : tree_o
   pub only_cube : n.kind ≡ OnlyPoint → cube_of cubes (tree_of ns id) ≡ Some cube_one
   only_cube k = ap (cube_of cubes) (childless OnlyPoint k refl)
 
-  pub zero_cube : n.kind ≡ Zero → cube_of cubes (tree_of ns id) ≡ Some cube_two
-  zero_cube k = ap (cube_of cubes) (childless Zero k refl)
-
-  pub one_cube : n.kind ≡ One → cube_of cubes (tree_of ns id) ≡ Some cube_two
-  one_cube k = ap (cube_of cubes) (childless One k refl)
+  pub end_cube : (n.kind ≡ Zero) ⊎ (n.kind ≡ One) → cube_of cubes (tree_of ns id) ≡ Some cube_two
+  end_cube k = elim k [
+    | inl zero ↦ ap (cube_of cubes) (childless Zero zero refl)
+    | inr one ↦ ap (cube_of cubes) (childless One one refl)
+  ]
 
   pub pair_cube : (s u : ℕ) → n.kind ≡ PointPair → n.kids ≡ s ∷ u ∷ [] → cube_of cubes (tree_of ns id)
       ≡ option_and_then (λ l. option_and_then (λ r. Some (product l r)) (cube_of cubes (tree_of ns u))) (cube_of cubes (tree_of ns s))
   pair_cube s u k are = ap (cube_of cubes) (tree_as ns id n PointPair (s ∷ u ∷ []) is k are)
 
-  pub top_over : n.kind ≡ Top → IsOver cubes (tree_of ns id)
-  top_over k = subst (IsOver cubes) (sym (childless Top k refl)) tt
+  pub always_over : (n.kind ≡ Top) ⊎ (n.kind ≡ Bottom) → IsOver cubes (tree_of ns id)
+  always_over k = elim k [
+    | inl top ↦ subst (IsOver cubes) (sym (childless Top top refl)) tt
+    | inr bottom ↦ subst (IsOver cubes) (sym (childless Bottom bottom refl)) tt
+  ]
 
-  pub bottom_over : n.kind ≡ Bottom → IsOver cubes (tree_of ns id)
-  bottom_over k = subst (IsOver cubes) (sym (childless Bottom k refl)) tt
+  parts_over : (p q : ℕ) → (n.kind ≡ Conjunction) ⊎ (n.kind ≡ Disjunction) → n.kids ≡ p ∷ q ∷ [] → IsOver cubes (tree_of ns id) ≡ (IsOver cubes (tree_of ns p) × IsOver cubes (tree_of ns q))
+  parts_over p q k are = elim k [
+    | inl both ↦ ap (IsOver cubes) (tree_as ns id n Conjunction (p ∷ q ∷ []) is both are)
+    | inr one ↦ ap (IsOver cubes) (tree_as ns id n Disjunction (p ∷ q ∷ []) is one are)
+  ]
+
+-- so a conjunction or a disjunction is told by its parts
+pub parts_told : (ns : List Node) (scope : Scope) (id : ℕ) (n : Node) → tree_of ns id ≡ tree_over (trees_in ns) n → HasForm ns id n → All (Tells ns scope) n.kids
+    → (p q : ℕ) → (n.kind ≡ Conjunction) ⊎ (n.kind ≡ Disjunction) → n.kids ≡ p ∷ q ∷ []
+    → (r : Bool) → r ≡ (contains nat_eq scope.over p && contains nat_eq scope.over q) → (r ≡ true) ↔ IsOver (map (tree_of ns) scope.entries.items) (tree_of ns id)
+parts_told ns scope id n is fine all p q k are r e =
+    let cubes = map (tree_of ns) scope.entries.items in
+    let told = all_two (Tells ns scope) p q n.kids are all in
+    subst (λ (Over : Type 0). (r ≡ true) ↔ Over) (sym (parts_over ns cubes id n is fine p q k are))
+    (and_told (contains nat_eq scope.over p) (contains nat_eq scope.over q) r (IsOver cubes (tree_of ns p)) (IsOver cubes (tree_of ns q)) told.0.tope told.1.tope e)

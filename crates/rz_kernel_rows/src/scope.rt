@@ -278,7 +278,7 @@ impl Scope {
         id: u64,
     ) -> Result<Option<u64>, OutOfMemory>
         requires there { id < length pool.old.nodes }
-        requires entries { AreCubes pool.old.nodes self.now.entries.items }
+        requires scope { IsScope pool.old.nodes self.now }
         requires kids { TellsKids pool.old.nodes self.now id }
         ensures told { IfOk result (IsCubeTold pool.new.nodes (cube_of (map (tree_of pool.old.nodes) self.now.entries.items) (tree_of pool.old.nodes id))) }
         ensures grows { Grows pool.old.nodes pool.new.nodes }
@@ -287,8 +287,7 @@ impl Scope {
         match node.kind {
             Kind::PointVariable => Ok(entry_cube(&self.entries, node.number)),
             Kind::OnlyPoint => Ok(Some(make_cube(alloc, pool, Kind::CubeOne, Kids::new())?)),
-            Kind::Zero => Ok(Some(make_cube(alloc, pool, Kind::CubeTwo, Kids::new())?)),
-            Kind::One => Ok(Some(make_cube(alloc, pool, Kind::CubeTwo, Kids::new())?)),
+            Kind::Zero | Kind::One => Ok(Some(self.interval)),
             Kind::PointPair => {
                 let (s, u) = two_kids(&node.kids);
                 product_of(alloc, pool, self.cube_at(s), self.cube_at(u))
@@ -308,13 +307,8 @@ impl Scope {
     {
         let node = pool.node(id);
         match node.kind {
-            Kind::Top => true,
-            Kind::Bottom => true,
-            Kind::Conjunction => {
-                let (p, q) = two_kids(&node.kids);
-                self.over.contains(&p) && self.over.contains(&q)
-            }
-            Kind::Disjunction => {
+            Kind::Top | Kind::Bottom => true,
+            Kind::Conjunction | Kind::Disjunction => {
                 let (p, q) = two_kids(&node.kids);
                 self.over.contains(&p) && self.over.contains(&q)
             }

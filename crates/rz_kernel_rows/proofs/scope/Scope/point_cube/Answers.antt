@@ -1,10 +1,10 @@
 use Rattle.std.proofs.Common.{ℕ, List, [], Option, Some, map, sym, ap, subst, ◌∙◌}
 use Rattle.std.specs.Prelude.{IfOk, option_map, option_and_then, slice_get}
-use Rattle.rz_rules.specs.declared.kinds.Kind.TheVariants.{CubeOne, CubeTwo}
-use Rattle.rz_rules.specs.Tree.{Tree, At, trees_of, tree_of}
+use Rattle.rz_rules.specs.declared.kinds.Kind.TheVariants.{CubeOne}
+use Rattle.rz_rules.specs.Tree.{Tree, At, sort_of, trees_of, tree_of}
 use Rattle.rz_rules.specs.Tope.{cube_of, product}
 use Rattle.rz_kernel_rows.specs.Scope.{IsCubeTold, Tells}
-use Rattle.rz_kernel_rows.proofs.Scopes.{entry_told, variable_cube, only_cube, zero_cube, one_cube, pair_cube, all_two}
+use Rattle.rz_kernel_rows.proofs.Scopes.{entry_told, variable_cube, only_cube, end_cube, pair_cube, all_two}
 use Rattle.rz_kernel_rows.proofs.scope.Scope.point_cube.Goals as goal
 
 pub returns-in-PointVariable-clause-told : goal.returns-in-PointVariable-clause-told
@@ -13,7 +13,7 @@ returns-in-PointVariable-clause-told c =
     let n = c.node-node.result.now in
     let entries = c.args.self.now.entries.items in
     let cubes = map (tree_of ns) entries in
-    let told = entry_told ns entries n.number c.requires.entries in
+    let told = entry_told ns entries n.number c.requires.scope.entries in
     subst (λ (o : Option ℕ). IsCubeTold ns (cube_of cubes (tree_of ns c.args.id)) o)
     (sym (c.entry_cube.ensures ∙ ap (λ ids. slice_get ids n.number) c.deref.ensures.value))
     (record { there = told.there; is = variable_cube ns cubes c.args.id n c.node-node.ensures.tree c.node-node.ensures.form c.in-PointVariable.is ∙ told.is })
@@ -28,24 +28,14 @@ returns-in_ok-make_cube-in-OnlyPoint-clause-told c =
           ∙ ap (λ (t : Tree). Some t) (sym (made.tree ∙ ap (λ (kids : List ℕ). At CubeOne 0 [] (trees_of (map (tree_of ns) kids))) c.new.ensures));
     }
 
-pub returns-in_ok-make_cube-in-Zero-clause-told : goal.returns-in_ok-make_cube-in-Zero-clause-told
-returns-in_ok-make_cube-in-Zero-clause-told c =
+pub returns-in-Zero-clause-told : goal.returns-in-Zero-clause-told
+returns-in-Zero-clause-told c =
     let ns = c.args.pool.now.nodes in
-    let made = c.in_ok-make_cube-in-Zero.ensures in
+    let scope = c.args.self.now in
     record {
-      there = made.cube;
-      is = zero_cube ns (map (tree_of ns) c.args.self.now.entries.items) c.args.id c.node-node.result.now c.node-node.ensures.tree c.node-node.ensures.form c.in-Zero.is
-          ∙ ap (λ (t : Tree). Some t) (sym (made.tree ∙ ap (λ (kids : List ℕ). At CubeTwo 0 [] (trees_of (map (tree_of ns) kids))) c.new-in-Zero.ensures));
-    }
-
-pub returns-in_ok-make_cube-in-One-clause-told : goal.returns-in_ok-make_cube-in-One-clause-told
-returns-in_ok-make_cube-in-One-clause-told c =
-    let ns = c.args.pool.now.nodes in
-    let made = c.in_ok-make_cube-in-One.ensures in
-    record {
-      there = made.cube;
-      is = one_cube ns (map (tree_of ns) c.args.self.now.entries.items) c.args.id c.node-node.result.now c.node-node.ensures.tree c.node-node.ensures.form c.in-One.is
-          ∙ ap (λ (t : Tree). Some t) (sym (made.tree ∙ ap (λ (kids : List ℕ). At CubeTwo 0 [] (trees_of (map (tree_of ns) kids))) c.new-in-One.ensures));
+      there = (c.requires.scope.interval, ap sort_of c.requires.scope.two);
+      is = end_cube ns (map (tree_of ns) scope.entries.items) c.args.id c.node-node.result.now c.node-node.ensures.tree c.node-node.ensures.form c.in-Zero.is
+          ∙ ap (λ (t : Tree). Some t) (sym c.requires.scope.two);
     }
 
 pub returns-in-PointPair-clause-told : goal.returns-in-PointPair-clause-told
