@@ -79,6 +79,17 @@ fn one_file(alloc: Global, name: &str, bytes: &[u8]) -> Result<Items<(Name, Byte
     Ok(files)
 }
 
+/// Whether a call that answered this status, and whose sink took these bytes, ended as it should.
+/// Where memory ran out, and nothing was taken or a front of the text, that is an error.
+fn ended(status: u8, taken: &Bytes, wanted: u8, text: &[u8]) -> Result<bool, OutOfMemory> {
+    let taken = taken.as_slice();
+    let broken_off = taken.len() < text.len() && text.starts_with(taken);
+    if status == 5 && (taken.is_empty() || broken_off) {
+        return Err(OutOfMemory);
+    }
+    Ok(status == wanted && taken == text)
+}
+
 /// Whether these words, over a file `total.drv` and devices that never fail, answer so.
 fn answers(
     alloc: Global,
@@ -90,7 +101,7 @@ fn answers(
     let mut files = GoodFiles::new(alloc, one_file(alloc, "total.drv", file)?);
     let mut out = GoodSink::new(alloc);
     let answer = call(alloc, words, &mut files, &mut out)?;
-    Ok(answer == status && out.taken().as_slice() == text.as_bytes())
+    ended(answer, out.taken(), status, text.as_bytes())
 }
 
 /// Whether the kernel's answer on a file is this line, with status 1.
@@ -122,18 +133,27 @@ fn words_that_are_no_command(rt: HostRuntime) -> Result<(), Fail> {
 }
 
 #[test]
-fn the_kernel_on_files(rt: HostRuntime) -> Result<(), Fail> {
-    let alloc = rt.alloc();
+fn a_file_of_derivations(rt: HostRuntime) -> Result<(), Fail> {
     let kernel = ["kernel", "total.drv"].as_slice();
-    assert!(rt; answers(alloc, kernel, TOTAL.as_bytes(), "yes 1\n", 0)?);
-    assert!(rt; refuses(alloc, b"", "malformed 1\n")?);
-    let more = format!(in alloc; "{TOTAL}\n")?;
-    assert!(rt; refuses(alloc, more.as_bytes(), "malformed 17\n")?);
+    assert!(rt; answers(rt.alloc(), kernel, TOTAL.as_bytes(), "yes 1\n", 0)?);
+    Ok(())
+}
 
+#[test]
+fn a_step_that_does_not_follow(rt: HostRuntime) -> Result<(), Fail> {
+    let alloc = rt.alloc();
+    let text = with_line(alloc, 14, "s le-total 0 holds 3 8 1")?;
+    assert!(rt; refuses(alloc, text.as_bytes(), "badrow 14\n")?);
+    Ok(())
+}
+
+#[test]
+fn lines_that_are_malformed(rt: HostRuntime) -> Result<(), Fail> {
+    let alloc = rt.alloc();
     let rows = [
-        (8, "n tle 4 0", "malformed 8\n"),
-        (14, "s le-total 0 holds 3 8 1", "badrow 14\n"),
         (15, "c total 03", "malformed 15\n"),
+        (8, "n tle 4 0", "malformed 8\n"),
+        (16, "end\n", "malformed 17\n"),
     ];
     for (number, line, answer) in rows {
         let text = with_line(alloc, number, line)?;
@@ -145,7 +165,7 @@ fn the_kernel_on_files(rt: HostRuntime) -> Result<(), Fail> {
 }
 
 #[test]
-fn the_kernel_on_fronts_of_a_file(rt: HostRuntime) -> Result<(), Fail> {
+fn fronts_of_a_file(rt: HostRuntime) -> Result<(), Fail> {
     let alloc = rt.alloc();
     let bytes = TOTAL.as_bytes();
     let mut line: u64 = 1;
@@ -176,15 +196,13 @@ fn ends(
     let mut files = MemoryFiles::new(alloc, stored, Numbers::from_slice(alloc, read_fails)?);
     let mut out = MemorySink::new(alloc, 1, Numbers::from_slice(alloc, write_fails)?);
     let answer = call(alloc, &["kernel", name], &mut files, &mut out)?;
-    Ok(answer == status && out.taken().as_slice() == taken)
+    ended(answer, out.taken(), status, taken)
 }
 
 #[test]
-fn files_that_cannot_be_read(rt: HostRuntime) -> Result<(), Fail> {
+fn a_missing_file(rt: HostRuntime) -> Result<(), Fail> {
     let alloc = rt.alloc();
     assert!(rt; ends(alloc, "z.rzk", &[], &[], 3, b"cannot read z.rzk\n")?);
-    assert!(rt; ends(alloc, "z.rzk", &[0], &[], 3, b"cannot read z.rzk\n")?);
-    assert!(rt; ends(alloc, "total.drv", &[0], &[], 3, b"cannot read total.drv\n")?);
     assert!(rt;
         ends(
             alloc,
@@ -195,8 +213,20 @@ fn files_that_cannot_be_read(rt: HostRuntime) -> Result<(), Fail> {
             b"cannot read two\nlines\n"
         )?
     );
-    assert!(rt; ends(alloc, "z.rzk", &[], &[0], 4, b"")?);
-    assert!(rt; ends(alloc, "z.rzk", &[], &[7], 4, b"cannot ")?);
+    Ok(())
+}
+
+#[test]
+fn a_read_that_fails(rt: HostRuntime) -> Result<(), Fail> {
+    let alloc = rt.alloc();
+    assert!(rt; ends(alloc, "total.drv", &[0], &[], 3, b"cannot read total.drv\n")?);
+    assert!(rt; ends(alloc, "z.rzk", &[0], &[], 3, b"cannot read z.rzk\n")?);
+    Ok(())
+}
+
+#[test]
+fn an_answer_that_is_written_byte_by_byte(rt: HostRuntime) -> Result<(), Fail> {
+    assert!(rt; ends(rt.alloc(), "total.drv", &[], &[6], 0, b"yes 1\n")?);
     Ok(())
 }
 
@@ -204,13 +234,20 @@ fn files_that_cannot_be_read(rt: HostRuntime) -> Result<(), Fail> {
 fn an_answer_that_cannot_be_written(rt: HostRuntime) -> Result<(), Fail> {
     let alloc = rt.alloc();
     let text = b"yes 1\n".as_slice();
-    for call in 0..6u64 {
+    for call in [5u64, 0, 1, 2, 3, 4] {
         let front = &text[..call as usize];
         assert!(rt;
             ends(alloc, "total.drv", &[], &[call], 4, front)?,
             "call {call}"
         );
     }
-    assert!(rt; ends(alloc, "total.drv", &[], &[6], 0, text)?);
+    Ok(())
+}
+
+#[test]
+fn a_refusal_that_cannot_be_written(rt: HostRuntime) -> Result<(), Fail> {
+    let alloc = rt.alloc();
+    assert!(rt; ends(alloc, "z.rzk", &[], &[7], 4, b"cannot ")?);
+    assert!(rt; ends(alloc, "z.rzk", &[], &[0], 4, b"")?);
     Ok(())
 }

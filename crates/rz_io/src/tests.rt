@@ -12,12 +12,17 @@ use std::io::{ErrorKind, Read};
 use std::test::Fail;
 use std::{env, fs, io, process};
 
-/// Whether a read of this name gives this answer.
-fn reads<F: Files>(store: &mut F, name: &str, want: Result<&[u8], ReadFault>) -> bool {
+/// Whether a read of this name gives this answer, where memory was found for it.
+fn reads<F: Files>(
+    store: &mut F,
+    name: &str,
+    want: Result<&[u8], ReadFault>,
+) -> Result<bool, OutOfMemory> {
     match (store.read(name), want) {
-        (Ok(bytes), Ok(want)) => bytes.as_slice() == want,
-        (Err(fault), Err(want)) => fault == want,
-        _ => false,
+        (Err(ReadFault::OutOfMemory), _) => Err(OutOfMemory),
+        (Ok(bytes), Ok(want)) => Ok(bytes.as_slice() == want),
+        (Err(fault), Err(want)) => Ok(fault == want),
+        _ => Ok(false),
     }
 }
 
@@ -33,48 +38,77 @@ fn three_files(alloc: Global) -> Result<Items<(Name, Bytes)>, OutOfMemory> {
 }
 
 #[test]
-fn a_store_answers_what_it_tells(rt: HostRuntime) -> Result<(), Fail> {
+fn a_good_store_answers_what_it_tells(rt: HostRuntime) -> Result<(), Fail> {
     let alloc = rt.alloc();
     let mut good = GoodFiles::new(alloc, three_files(alloc)?);
-    assert!(rt; reads(&mut good, "a", Ok(b"one")));
-    assert!(rt; reads(&mut good, "b", Ok(b"")));
-    assert!(rt; reads(&mut good, "c", Err(ReadFault::Missing)));
+    assert!(rt; reads(&mut good, "a", Ok(b"one"))?);
+    assert!(rt; reads(&mut good, "b", Ok(b""))?);
+    assert!(rt; reads(&mut good, "c", Err(ReadFault::Missing))?);
     assert_eq!(rt; good.faults(), 0);
+    Ok(())
+}
 
-    let failed = Err(ReadFault::Failed);
-    let missing = Err(ReadFault::Missing);
-    let one: Result<&[u8], ReadFault> = Ok(b"one");
-    // The calls that fail, what three reads of a, c and a answer, and the faults then.
-    let rows: [(&[u64], [Result<&[u8], ReadFault>; 3], u64); 5] = [
-        (&[], [one, missing, one], 0),
-        (&[0], [failed, missing, one], 1),
-        (&[1, 3], [one, failed, one], 1),
-        (&[2, 0, 2], [failed, missing, failed], 2),
-        (&[0, 1, 2], [failed, failed, failed], 3),
-    ];
-    for (fails, [first, second, third], faults) in rows {
-        let fails = Numbers::from_slice(alloc, fails)?;
-        let mut store = MemoryFiles::new(alloc, three_files(alloc)?, fails);
-        assert!(rt; reads(&mut store, "a", first));
-        assert!(rt; reads(&mut store, "c", second));
-        assert!(rt; reads(&mut store, "a", third));
-        assert_eq!(rt; store.faults(), faults);
+const ONE: Result<&[u8], ReadFault> = Ok(b"one");
+
+const MISSING: Result<&[u8], ReadFault> = Err(ReadFault::Missing);
+
+const FAILED: Result<&[u8], ReadFault> = Err(ReadFault::Failed);
+
+/// The calls that fail, what three reads of a, c and a answer, and the faults then.
+const READS: [(&[u64], [Result<&[u8], ReadFault>; 3], u64); 5] = [
+    (&[], [ONE, MISSING, ONE], 0),
+    (&[0], [FAILED, MISSING, ONE], 1),
+    (&[1, 3], [ONE, FAILED, ONE], 1),
+    (&[2, 0, 2], [FAILED, MISSING, FAILED], 2),
+    (&[0, 1, 2], [FAILED, FAILED, FAILED], 3),
+];
+
+/// Whether three reads of a, c and a answer so, and leave so many faults.
+fn reads_thrice(
+    alloc: Global,
+    fails: &[u64],
+    wanted: [Result<&[u8], ReadFault>; 3],
+    faults: u64,
+) -> Result<bool, OutOfMemory> {
+    let [first, second, third] = wanted;
+    let fails = Numbers::from_slice(alloc, fails)?;
+    let mut store = MemoryFiles::new(alloc, three_files(alloc)?, fails);
+    Ok(
+        reads(&mut store, "a", first)?
+            && reads(&mut store, "c", second)?
+            && reads(&mut store, "a", third)?
+            && store.faults() == faults,
+    )
+}
+
+#[test]
+fn a_store_fails_at_the_listed_calls(rt: HostRuntime) -> Result<(), Fail> {
+    for (place, (fails, wanted, faults)) in READS.iter().enumerate() {
+        assert!(rt;
+            reads_thrice(rt.alloc(), fails, *wanted, *faults)?,
+            "row {place}"
+        );
     }
     Ok(())
 }
 
 const TEXT: &[u8] = b"yes 1\n";
 
-/// Whether a text that is written ends with this front taken, and with the one answer for that.
+/// Whether a text that is written ends with this front taken, and with the one answer for that,
+/// where memory was found for it. Where it wasn't, a front of that front was taken.
 fn leaves(alloc: Global, chunk: u64, fails: &[u64], front: &[u8]) -> Result<bool, OutOfMemory>
     requires { 0 < chunk }
 {
     let mut out = MemorySink::new(alloc, chunk, Numbers::from_slice(alloc, fails)?);
     let answer = write_all(&mut out, &Bytes::from_slice(alloc, TEXT)?);
+    let taken = out.taken().as_slice();
+    if answer == Err(WriteFault::OutOfMemory) && front.starts_with(taken) && out.faults() == 0 {
+        return Err(OutOfMemory);
+    }
     let all = front == TEXT;
     let wanted = if all { Ok(()) } else { Err(WriteFault::Failed) };
     let faults = if all { 0 } else { 1 };
-    Ok(answer == wanted && out.taken().as_slice() == front && out.faults() == faults)
+    Ok(answer == wanted && taken == front && out.faults() == faults)
 }
 
 #[test]
@@ -161,6 +195,32 @@ impl Read for Slow {
     }
 }
 
+/// Why a read failed, where memory was found for it.
+fn failure(answer: io::Result<Bytes>) -> io::Result<Option<ErrorKind>> {
+    match answer {
+        Err(e) if e.kind() == ErrorKind::OutOfMemory => Err(e),
+        Err(e) => Ok(Some(e.kind())),
+        Ok(_) => Ok(None),
+    }
+}
+
+#[test]
+fn a_reader_is_read_to_its_end(rt: HostRuntime) -> Result<(), Fail> {
+    let alloc = rt.alloc();
+    let mut ends = Slow {
+        left: 3,
+        fails: false,
+    };
+    assert_eq!(rt; read_whole(alloc, &mut ends)?.as_slice(), b"xxx".as_slice());
+    let mut breaks = Slow {
+        left: 3,
+        fails: true,
+    };
+    let broken = failure(read_whole(alloc, &mut breaks))?;
+    assert_eq!(rt; broken, Some(ErrorKind::BrokenPipe));
+    Ok(())
+}
+
 #[test]
 fn the_disk_gives_a_whole_file_or_fails(rt: HostRuntime) -> Result<(), Fail> {
     let alloc = rt.alloc();
@@ -177,29 +237,12 @@ fn the_disk_gives_a_whole_file_or_fails(rt: HostRuntime) -> Result<(), Fail> {
     let mut disk = DiskFiles::new(&rt);
     let whole = reads(&mut disk, name.as_str(), Ok(text.as_slice()));
     fs::remove_file(&rt, name.as_str())?;
-    assert!(rt; whole);
+    assert!(rt; whole?);
     assert_eq!(rt; disk.faults(), 0);
 
-    assert!(rt; reads(&mut disk, name.as_str(), Err(ReadFault::Failed)));
-    assert!(rt; reads(&mut disk, folder.to_string_lossy(), Err(ReadFault::Failed)));
+    assert!(rt; reads(&mut disk, name.as_str(), FAILED)?);
+    assert!(rt; reads(&mut disk, folder.to_string_lossy(), FAILED)?);
     assert_eq!(rt; disk.faults(), 2);
-
-    let ended = read_whole(
-        alloc,
-        &mut Slow {
-            left: 3,
-            fails: false,
-        },
-    )?;
-    assert_eq!(rt; ended.as_slice(), b"xxx".as_slice());
-    let broken = read_whole(
-        alloc,
-        &mut Slow {
-            left: 3,
-            fails: true,
-        },
-    );
-    assert_eq!(rt; broken.err().map(|e| e.kind()), Some(ErrorKind::BrokenPipe));
     Ok(())
 }
 

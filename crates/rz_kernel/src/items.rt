@@ -8,7 +8,7 @@ ghost use Rattle.rz_rules.specs.declared.nodes.Node.{Node};
 ghost use Rattle.rz_rules.specs.declared.judgments.Line.{Line};
 ghost use Rattle.rz_rules.specs.Judgment.{head_of, ids_of};
 ghost use Rattle.rz_rules.specs.Form.{parts_of_head};
-ghost use Rattle.rz_rules.specs.File.{IsName, ClaimFits, is_white};
+ghost use Rattle.rz_rules.specs.File.{IsName, ClaimFits};
 ghost use Rattle.std.specs.Fmt.{decimal};
 ghost use Rattle.rz_kernel.specs.Kept.{known_of, IsKept};
 ghost use Rattle.rz_kernel.specs.Lines.{node_words, step_words, AreSmall, IsNodeOf, IsLineOf};
@@ -16,7 +16,7 @@ ghost use Rattle.rz_kernel.specs.Lines.{node_words, step_words, AreSmall, IsNode
 use crate::kept::Kept;
 use crate::numbers::{number_of, numbers_of};
 use rz_rules::{
-    Head, Judgment, Kids, Kind, Line, Name, Node, Numbers, OutOfMemory, Row, Sort, Worded,
+    Head, Judgment, Kids, Kind, Line, Name, Node, Numbers, OutOfMemory, Row, Sort, Worded, is_name,
 };
 use std::alloc::Global;
 
@@ -158,19 +158,4 @@ pub fn claim_of(kept: &Kept, words: &[&[u8]]) -> Option<u64>
     } else {
         None
     }
-}
-
-/// Whether bytes are a name.
-fn is_name(word: &[u8]) -> bool
-    ensures { IsTrue result ↔ IsName word.now }
-{
-    !word.is_empty() && str::from_utf8(word).is_ok() && is_solid(word)
-}
-
-/// Whether no byte is white space.
-fn is_solid(word: &[u8]) -> bool
-    ensures { IsTrue result ↔ All (λ b. is_white b ≡ false) word.now }
-{
-    word.iter()
-        .all(|b| !matches!(*b, b' ' | b'\t' | b'\n' | b'\r'))
 }

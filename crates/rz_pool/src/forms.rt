@@ -2,39 +2,22 @@
 
 ghost use Rattle.std.specs.Prelude.{◌≡◌, ◌<◌, ◌↔◌, [], true, false, IsTrue, length, map, All};
 ghost use Rattle.rz_rules.specs.Form.{is_named};
-ghost use Rattle.rz_rules.specs.File.{IsName, is_white};
+ghost use Rattle.rz_rules.specs.File.{IsName};
 ghost use Rattle.rz_rules.specs.Tree.{sort_of, tree_of};
 ghost use Rattle.rz_pool.specs.Pool.{HasForm};
 
 use crate::pool::Pool;
-use rz_rules::{Node, Role, Slot, Sort};
+use rz_rules::{Node, Role, Slot, Sort, is_name};
 
 /// Whether a node of this role may have this name, the empty one standing for none.
 fn is_name_for(role: Role, name: &str) -> bool
     ensures { IsTrue result ↔ ((is_named role ≡ false → name.now ≡ []) × (is_named role ≡ true → IsName name.now)) }
 {
     if role.is_named() {
-        is_name(name)
+        is_name(name.as_bytes())
     } else {
         name.is_empty()
     }
-}
-
-/// Whether a text is a name.
-fn is_name(text: &str) -> bool
-    ensures { IsTrue result ↔ IsName text.now }
-{
-    let bytes = text.as_bytes();
-    !bytes.is_empty() && is_solid(bytes)
-}
-
-/// Whether no byte is white space.
-fn is_solid(bytes: &[u8]) -> bool
-    ensures { IsTrue result ↔ All (λ byte. is_white byte ≡ false) bytes.now }
-{
-    bytes
-        .iter()
-        .all(|byte| !matches!(*byte, b' ' | b'\t' | b'\n' | b'\r'))
 }
 
 impl Pool {

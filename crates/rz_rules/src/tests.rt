@@ -2,7 +2,7 @@ ghost use Rattle.std.specs.Prelude.{◌≡◌, ◌<◌};
 
 use crate::{
     Bytes, Condition, Head, Items, Judgment, Kids, Kind, Line, Name, Node, Numbers, OutOfMemory,
-    Row, Sort, Space, Steps, Symbol, Worded,
+    Row, Sort, Space, Steps, Symbol, Worded, is_name,
 };
 use std::alloc::{AllocError, Global};
 use std::marker::Brand;
@@ -229,6 +229,26 @@ fn nodes_and_lines(rt: HostRuntime) -> Result<(), Fail> {
     assert!(rt; again.says == says && again.row == line.row);
     assert!(rt; again.from.as_slice() == [2].as_slice());
     Ok(())
+}
+
+/// Bytes, and whether they are a name.
+const NAMES: [(&[u8], bool); 9] = [
+    (b"total", true),
+    (b"\xe2\x84\x95-plus'", true),
+    (b"", false),
+    (b"a b", false),
+    (b"\ta", false),
+    (b"a\n", false),
+    (b"a\r", false),
+    (b"\xff", false),
+    (b"a\xe2\x84", false),
+];
+
+#[test]
+fn names_are_text_without_white_space(rt: HostRuntime) {
+    for (place, (bytes, wanted)) in NAMES.iter().enumerate() {
+        assert_eq!(rt; is_name(bytes), *wanted, "row {place}");
+    }
 }
 
 #[test]

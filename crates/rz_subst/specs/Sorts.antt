@@ -1,5 +1,6 @@
--- Sorts stay, whatever becomes of the variables; and what a value is in a pool that grows. The laws of the two changes.
-use Rattle.std.proofs.Common.{◌≡◌, ℕ, ◌<◌, ◌+◌, ◌-◌, ◌==◌, Bool, true, false, if◌then◌else◌, nat_lt, List, [], length, refl, sym, ap, ◌∙◌, arith}
+-- Sorts stay, whatever becomes of the variables, and a value stays what it is in a pool that grows. These are lemmas with their
+-- proofs, by which the two changes meet the laws of their trait; no contract speaks in them.
+use Rattle.std.proofs.Common.{◌≡◌, ℕ, ◌+◌, ◌-◌, ◌==◌, Bool, true, false, if◌then◌else◌, nat_lt, List, [], refl, sym, ap, ◌∙◌, arith}
 use Rattle.rz_rules.specs.declared.kinds.Sort.{Sort}
 use Rattle.rz_rules.specs.declared.kinds.Space.{Space}
 use Rattle.rz_rules.specs.declared.kinds.Space.TheVariants.{Points, Terms}
@@ -13,7 +14,7 @@ use Rattle.rz_rules.specs.Tree.{Tree, Trees, At, sort_of, tree_of}
 use Rattle.rz_rules.specs.Substitution.{Depth, none, total, Change, Renumbered, Replaced, Changes, changed, changed_variable, changed_node, changed_kids, raising, weakened, putting}
 use Rattle.rz_pool.specs.Pool.{Grows}
 use Rattle.rz_pool.proofs.Nodes.{length-Grows, KeepsTrees-Grows}
-use Rattle.rz_subst.specs.Walk.{sort_in, HasSort, KeepsSorts}
+use Rattle.rz_subst.specs.Walk.{sort_in, HasSort, KeepsSorts, IsValue}
 
 -- a variable has the sort of its space, and no kids
 pub variable_form : (kind : Kind) (space : Space) → (form kind).role ≡ Variable space → ((form kind).sort ≡ sort_in space) × ((form kind).kids ≡ [])
@@ -55,10 +56,6 @@ KeepsSorts-putting space value h other depth number = by space other h
     by Points Terms h = tt
     by Terms Points h = tt
     by Terms Terms h = choice (nat_lt number (none Terms + depth Terms)) (number == none Terms + depth Terms) (sort_in Terms) (weakened (total none depth) value) number (number - 1) (raised (sort_in Terms) h)
-
--- a value of its sort in a pool
-abbrev pub IsValue : Space → ℕ → List Node → Type 0
-IsValue space value nodes = (value < length nodes) × (sort_of (tree_of nodes value) ≡ sort_in space)
 
 pub kept-putting : (space : Space) (value : ℕ) (old new : List Node) → IsValue space value old → Grows old new
     → IsValue space value new × (putting space none (tree_of new value) ≡ putting space none (tree_of old value))

@@ -111,3 +111,7 @@ HasSort sort (meanings.Replaced tree) = sort_of tree ≡ sort
 -- only trees of its sort take the place of a variable
 abbrev pub KeepsSorts : Changes → Type 0
 KeepsSorts changes = (space : Space) (depth : Depth) (number : ℕ) → HasSort (sort_in space) (changes space depth number)
+
+-- a value of its sort in a pool
+abbrev pub IsValue : Space → ℕ → List Node → Type 0
+IsValue space value nodes = (value < length nodes) × (sort_of (tree_of nodes value) ≡ sort_in space)

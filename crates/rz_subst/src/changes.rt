@@ -4,7 +4,7 @@ ghost use Rattle.std.specs.Prelude.{◌≡◌, ◌<◌, ◌^◌, length, IfOk, r
 ghost use Rattle.rz_rules.specs.Tree.{sort_of, tree_of};
 ghost use Rattle.rz_rules.specs.Substitution.{IndicesBelow, none, only, raising, weakened, putting, shift, put, same_space};
 ghost use Rattle.rz_pool.specs.Pool.{Grows};
-ghost use Rattle.rz_subst.specs.Walk.{depth_of, sort_in};
+ghost use Rattle.rz_subst.specs.Walk.{depth_of, sort_in, IsValue};
 ghost use Rattle.rz_subst.specs.Sorts.{KeepsSorts-raising, KeepsSorts-putting, kept-putting};
 
 use crate::walk::{Change, Changing, Counts, rebuild};
@@ -58,7 +58,7 @@ impl Changing for Raising {
 impl Changing for Putting {
     ghost changes = { λ it nodes. putting it.space none (tree_of nodes it.value) };
 
-    ghost is_there = { λ it nodes. (it.value < length nodes) × (sort_of (tree_of nodes it.value) ≡ sort_in it.space) };
+    ghost is_there = { λ it nodes. IsValue it.space it.value nodes };
 
     ghost kept = { λ it old new there grows. kept-putting it.space it.value old new there grows };
 
