@@ -5,7 +5,7 @@ ghost use Rattle.std.specs.Io.KnownBytes.{Consumes, IsAtEnd};
 ghost use Rattle.rz_io.specs.Device.{Untold, count_after};
 
 use crate::{Files, ReadFault};
-use rz_rules::{Bytes, OutOfMemory};
+use rz_rules::Bytes;
 use std::alloc::{AllocError, Global};
 use std::fs::File;
 use std::io::{ErrorKind, Read};
@@ -97,7 +97,9 @@ fn read_turn<F: Read>(file: &mut F, buffer: &mut [u8], bytes: &mut Bytes) -> io:
     ensures end { IfOk result (λ more. IsFalse more → IsAtEnd (F.remaining file.new)) }
 {
     let taken = file.read(buffer)?;
-    append(bytes, &buffer[..taken]).map_err(|_| io::Error::from(ErrorKind::OutOfMemory))?;
+    bytes
+        .extend_from_slice(&buffer[..taken])
+        .map_err(|_| io::Error::from(ErrorKind::OutOfMemory))?;
     Ok(taken > 0)
 }
 
@@ -106,13 +108,4 @@ pub fn zeros(alloc: Global, count: usize) -> Result<Vec<u8>, AllocError>
     ensures { IfOk result (λ bytes. vec_len bytes ≡ count) }
 {
     vec![in alloc; 0u8; count]
-}
-
-fn append(bytes: &mut Bytes, piece: &[u8]) -> Result<(), OutOfMemory>
-    ensures { OnOk result (bytes.new ≡ bytes.old ++ piece.now) }
-{
-    for byte in piece {
-        bytes.push(*byte)?;
-    }
-    Ok(())
 }

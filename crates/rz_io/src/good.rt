@@ -3,7 +3,7 @@
 ghost use Rattle.std.specs.Prelude.{◌≡◌, ◌↔◌, ◌<◌, [], ◌++◌, Some, length, IfOk, OnOk, OnErr, IsErrOf, IsOkUnless};
 ghost use Rattle.rz_io.specs.Device.{Absent, Present, told_by};
 
-use crate::listed::{extended, find};
+use crate::listed::find;
 use crate::{Files, ReadFault, Sink, WriteFault};
 use rz_rules::{Bytes, Items, Name};
 use std::alloc::Global;
@@ -58,7 +58,6 @@ impl Files for GoodFiles {
 /// A sink that never fails, seen as the bytes that it took.
 #[derive(Drop)]
 pub struct GoodSink {
-    alloc: Global,
     bytes: Bytes,
 }
 
@@ -76,7 +75,6 @@ impl GoodSink {
         ensures { result ≡ [] }
     {
         GoodSink {
-            alloc,
             bytes: Bytes::new(alloc),
         }
     }
@@ -101,7 +99,7 @@ impl Sink for GoodSink {
         ensures err { OnErr result (self.new ≡ self.old) }
         ensures only_memory { IsOkUnless result WriteFault.OutOfMemory }
     {
-        self.bytes = extended(self.alloc, &self.bytes, piece)?;
+        self.bytes.extend_from_slice(piece)?;
         Ok(piece.len() as u64)
     }
 

@@ -1,10 +1,9 @@
-//! Work on lists that the devices in memory share.
+//! The files of the stores in memory.
 
-ghost use Rattle.std.specs.Prelude.{◌≡◌, ◌++◌, IfOk, IfSome, IfNone};
+ghost use Rattle.std.specs.Prelude.{◌≡◌, IfSome, IfNone};
 ghost use Rattle.rz_io.specs.Device.{Absent, Present, told_by};
 
-use rz_rules::{Bytes, Name, OutOfMemory};
-use std::alloc::Global;
+use rz_rules::{Bytes, Name};
 
 /// The bytes of the first file of a name.
 pub fn find<'a>(files: &'a [(Name, Bytes)], name: &str) -> Option<&'a Bytes>
@@ -17,13 +16,4 @@ pub fn find<'a>(files: &'a [(Name, Bytes)], name: &str) -> Option<&'a Bytes>
         }
     }
     None
-}
-
-/// These bytes with a piece at their end.
-pub fn extended(alloc: Global, bytes: &Bytes, piece: &[u8]) -> Result<Bytes, OutOfMemory>
-    ensures { IfOk result (λ longer. longer ≡ bytes.now ++ piece.now) }
-{
-    let mut longer = Vec::from_slice(alloc, bytes.as_slice())?;
-    longer.extend_from_slice(piece)?;
-    Bytes::from_slice(alloc, longer.as_slice())
 }

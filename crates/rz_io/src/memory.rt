@@ -5,7 +5,7 @@ ghost use Rattle.rz_io.specs.Device.{Absent, Present, told_by};
 ghost use Rattle.rz_io.specs.Memory.{no_calls, fails_now, after_call};
 
 use crate::calls::Calls;
-use crate::listed::{extended, find};
+use crate::listed::find;
 use crate::{Files, ReadFault, Sink, WriteFault};
 use rz_rules::{Bytes, Items, Name, Numbers};
 use std::alloc::Global;
@@ -72,7 +72,6 @@ impl Files for MemoryFiles {
 /// call takes one chunk, or the whole piece where that is shorter.
 #[derive(Drop)]
 pub struct MemorySink {
-    alloc: Global,
     chunk: u64,
     bytes: Bytes,
     calls: Calls,
@@ -97,7 +96,6 @@ impl MemorySink {
         ensures { result ≡ record { chunk = chunk; bytes = []; calls = no_calls fails } }
     {
         MemorySink {
-            alloc,
             chunk,
             bytes: Bytes::new(alloc),
             calls: Calls::new(fails),
@@ -135,7 +133,7 @@ impl Sink for MemorySink {
             return Err(WriteFault::Failed);
         }
         let taken = self.chunk.min(piece.len() as u64);
-        self.bytes = extended(self.alloc, &self.bytes, &piece[..taken as usize])?;
+        self.bytes.extend_from_slice(&piece[..taken as usize])?;
         Ok(taken)
     }
 

@@ -58,6 +58,15 @@ impl<T: Copy + Drop> Values<T> {
         Ok(())
     }
 
+    /// Adds these items at the end, in their order.
+    pub fn extend_from_slice(&mut self, items: &[T]) -> Result<(), OutOfMemory>
+        ensures ok { OnOk result (self.new ≡ self.old ++ items.now) }
+        ensures err { OnErr result (self.new ≡ self.old) }
+    {
+        self.items.extend_from_slice(items)?;
+        Ok(())
+    }
+
     /// How many items there are.
     pub fn len(&self) -> u64
         ensures { result ≡ length self.now }

@@ -172,18 +172,23 @@ fn roles_and_conditions(rt: HostRuntime) {
 }
 
 #[test]
-fn lists_and_their_copies(rt: HostRuntime) -> Result<(), Fail> {
+fn numbers_and_their_copies(rt: HostRuntime) -> Result<(), Fail> {
     let alloc = rt.alloc();
     let mut numbers = Numbers::new(alloc);
     numbers.push(7)?;
-    numbers.push(9)?;
+    numbers.extend_from_slice(&[9, 4])?;
     let again = numbers.copy(alloc)?;
-    assert!(rt; again.as_slice() == [7, 9].as_slice());
+    assert!(rt; again.as_slice() == [7, 9, 4].as_slice());
     assert_eq!(rt;
-        (again.len(), again.get(1), again.get(2)),
-        (2, Some(9), None)
+        (again.len(), again.get(1), again.get(3)),
+        (3, Some(9), None)
     );
+    Ok(())
+}
 
+#[test]
+fn names_and_items(rt: HostRuntime) -> Result<(), Fail> {
+    let alloc = rt.alloc();
     let mut name = Name::from_text(alloc, "a")?;
     name.push('λ')?;
     let same = name.copy(alloc)?;
