@@ -234,6 +234,7 @@ fn an_answer_that_is_written_byte_by_byte(rt: HostRuntime) -> Result<(), Fail> {
 fn an_answer_that_cannot_be_written(rt: HostRuntime) -> Result<(), Fail> {
     let alloc = rt.alloc();
     let text = b"yes 1\n".as_slice();
+    // The longest run comes first, so that a refused allocation meets it.
     for call in [5u64, 0, 1, 2, 3, 4] {
         let front = &text[..call as usize];
         assert!(rt;
