@@ -1,10 +1,10 @@
 //! The top call.
 
-ghost use Rattle.std.specs.Prelude.{◌≡◌, ◌≢◌, ◌≤◌, ◌⊎◌, ℕ, List, [], Some, None, map, string_bytes};
-ghost use Rattle.rz_io.specs.Device.{Present, Rose, Grows};
-ghost use Rattle.rz_app.specs.Command.{Kernel, command};
-ghost use Rattle.rz_app.specs.Answer.{Answers};
-ghost use Rattle.rz_app.specs.Fault.{CannotRead, BreaksOff};
+ghost use Rattle.std.specs.Prelude.{◌≡◌, ◌≢◌, ◌≤◌, ◌-◌, ◌⊎◌, ℕ, List, [], None, All, map, string_bytes};
+ghost use Rattle.rz_io.specs.Device.{Rose, Gains};
+ghost use Rattle.rz_app.specs.Command.{command, files_of};
+ghost use Rattle.rz_app.specs.Answer.{Answers, CountsSteps, IsStatus};
+ghost use Rattle.rz_app.specs.Fault.{CannotRead, BreaksOff, IsPresent};
 
 use crate::page::{Page, compose};
 use rz_io::{Files, Sink, WriteFault, write_all};
@@ -21,7 +21,8 @@ const NO_MEMORY: u8 = 5;
 /// Does what the words after the program's name ask for, writes the answer, and answers the
 /// status: 0 for a yes, 1 for a no, 2 where the words are no command, 3 where a file can't be
 /// read, 4 where the output can't be written, and 5 for want of memory, which may come at any
-/// time. The words are looked at first, then the file, then the work is done, then all is written.
+/// time. The words are looked at first, then the files are read in their order, then the work is
+/// done, then all is written.
 pub fn rzk<F: Files, S: Sink, L: Ledger>(
     alloc: Global,
     words: &[String],
@@ -32,17 +33,18 @@ pub fn rzk<F: Files, S: Sink, L: Ledger>(
     // All was written, and it answers the words over what the store tells.
     ensures answered { result ≢ 3 → result ≢ 4 → result ≢ 5 → (text : List ℕ)
         × Answers (map string_bytes words.now) (F.told files.old) text result
-        × Grows (S.taken out.old) (S.taken out.new) text }
-    ensures known { result ≤ 5 }
+        × Gains (S.taken out.old) (S.taken out.new) text }
+    ensures known { (result ≡ 3) ⊎ (result ≡ 4) ⊎ (result ≡ 5)
+        ⊎ IsStatus (command (map string_bytes words.now)) result }
 
     ensures no_command { result ≡ 2 → command (map string_bytes words.now) ≡ None }
     ensures no_command_only { command (map string_bytes words.now) ≡ None
         → result ≢ 4 → result ≢ 5 → result ≡ 2 }
 
     ensures cannot_read { result ≡ 3 → (text : List ℕ)
-        × CannotRead (command (map string_bytes words.now)) (F.told files.old)
+        × CannotRead (files_of (command (map string_bytes words.now))) (F.told files.old)
         (F.count files.old) (F.count files.new) text
-        × Grows (S.taken out.old) (S.taken out.new) text }
+        × Gains (S.taken out.old) (S.taken out.new) text }
 
     ensures cannot_write { result ≡ 4 → Rose (S.count out.old) (S.count out.new) }
     ensures broken_off { result ≡ 4 → BreaksOff (command (map string_bytes words.now))
@@ -50,21 +52,21 @@ pub fn rzk<F: Files, S: Sink, L: Ledger>(
         (S.taken out.old) (S.taken out.new) }
 
     // Nothing was written, or the sink wanted memory on the way.
-    ensures no_memory { result ≡ 5 → Grows (S.taken out.old) (S.taken out.new) []
+    ensures no_memory { result ≡ 5 → Gains (S.taken out.old) (S.taken out.new) []
         ⊎ BreaksOff (command (map string_bytes words.now))
         (F.told files.old) (F.count files.old) (F.count files.new)
         (S.taken out.old) (S.taken out.new) }
 
-    // Where the file is there and no fault was counted, it is read and written.
-    ensures complete { (file bytes : List ℕ)
-        → command (map string_bytes words.now) ≡ Some (Kernel file)
-        → F.told files.old file ≡ Present bytes
+    // Where each file is there and no fault was counted, all are read and the answer is written.
+    ensures complete { All (λ name. IsPresent (F.told files.old name))
+        (files_of (command (map string_bytes words.now)))
         → ¬ Rose (F.count files.old) (F.count files.new)
         → ¬ Rose (S.count out.old) (S.count out.new)
         → (result ≢ 3) × (result ≢ 4) }
 
-    // This judges nothing.
-    ensures steps { steps.new ≡ steps.old }
+    ensures steps { CountsSteps (command (map string_bytes words.now)) (F.told files.old) result
+        (steps.new - steps.old) }
+    ensures steps_never_fall { steps.old ≤ steps.new }
 
     ensures told { (name : List ℕ) → F.told files.new name ≡ F.told files.old name }
     ensures files_count { F.count files.old ≤ F.count files.new }

@@ -1,8 +1,8 @@
 //! The text of a call, composed whole before it is written.
 
-ghost use Rattle.std.specs.Prelude.{◌≡◌, ℕ, ◌≤◌, List, Some, IfOk, map, string_bytes};
+ghost use Rattle.std.specs.Prelude.{◌≡◌, ℕ, ◌≤◌, ◌++◌, List, Some, IfOk, map, codes, string_bytes};
 ghost use Rattle.rz_app.specs.Command.{Kernel, command};
-ghost use Rattle.rz_app.specs.Answer.{text_of, status_of, cannot_read};
+ghost use Rattle.rz_app.specs.Answer.{text_of, status_of, line};
 ghost use Rattle.rz_app.specs.Fault.{Composes};
 
 use crate::command::{Request, parse};
@@ -79,7 +79,7 @@ fn answer_page(alloc: Global, answer: KernelAnswer) -> Result<Page, OutOfMemory>
 
 /// The line on a file that can't be read.
 fn cannot_read_page(alloc: Global, name: &str) -> Result<Page, OutOfMemory>
-    ensures text { IfOk result (λ page. page.text ≡ cannot_read name.now) }
+    ensures text { IfOk result (λ page. page.text ≡ line (codes "cannot read " ++ name.now)) }
     ensures status { IfOk result (λ page. page.status ≡ 3) }
 {
     let text = format!(in alloc; "cannot read {name}\n")?;

@@ -2,7 +2,7 @@ ghost use Rattle.std.specs.Prelude.{◌≡◌, ◌<◌};
 
 use crate::rzk;
 use rz_io::{Files, GoodFiles, GoodSink, MemoryFiles, MemorySink, Sink};
-use rz_rules::{Bytes, Items, Name, Numbers, OutOfMemory, Steps};
+use rz_rules::{Bytes, Name, Numbers, OutOfMemory, Steps};
 use std::alloc::{AllocError, Global};
 use std::marker::Brand;
 use std::sync::ledger::{Blank, Ledger};
@@ -71,8 +71,8 @@ fn counted<F: Files, S: Sink, L: Ledger>(
 }
 
 /// A list of one file.
-fn one_file(alloc: Global, name: &str, bytes: &[u8]) -> Result<Items<(Name, Bytes)>, OutOfMemory> {
-    let mut files = Items::new(alloc);
+fn one_file(alloc: Global, name: &str, bytes: &[u8]) -> Result<Vec<(Name, Bytes)>, OutOfMemory> {
+    let mut files = Vec::new(alloc);
     let name = Name::from_text(alloc, name)?;
     let bytes = Bytes::from_slice(alloc, bytes)?;
     files.push((name, bytes))?;
@@ -98,7 +98,7 @@ fn answers(
     text: &str,
     status: u8,
 ) -> Result<bool, OutOfMemory> {
-    let mut files = GoodFiles::new(alloc, one_file(alloc, "total.drv", file)?);
+    let mut files = GoodFiles::new(one_file(alloc, "total.drv", file)?);
     let mut out = GoodSink::new(alloc);
     let answer = call(alloc, words, &mut files, &mut out)?;
     ended(answer, out.taken(), status, text.as_bytes())
@@ -193,7 +193,7 @@ fn ends(
     taken: &[u8],
 ) -> Result<bool, OutOfMemory> {
     let stored = one_file(alloc, "total.drv", TOTAL.as_bytes())?;
-    let mut files = MemoryFiles::new(alloc, stored, Numbers::from_slice(alloc, read_fails)?);
+    let mut files = MemoryFiles::new(stored, Numbers::from_slice(alloc, read_fails)?);
     let mut out = MemorySink::new(alloc, 1, Numbers::from_slice(alloc, write_fails)?);
     let answer = call(alloc, &["kernel", name], &mut files, &mut out)?;
     ended(answer, out.taken(), status, taken)

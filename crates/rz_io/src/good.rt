@@ -1,19 +1,18 @@
 //! A store and a sink in memory that never fail.
 
-ghost use Rattle.std.specs.Prelude.{◌≡◌, ◌↔◌, ◌<◌, [], ◌++◌, Some, length, IfOk, OnOk, OnErr, IsErrOf, IsOkUnless};
+ghost use Rattle.std.specs.Prelude.{◌≡◌, ◌↔◌, ◌<◌, [], ◌++◌, None, Some, length, IfOk, OnOk, OnErr, IsErrOf, IsOkUnless};
 ghost use Rattle.rz_io.specs.Device.{Absent, Present, told_by};
 
-use crate::listed::find;
+use crate::lookup::copy_of;
 use crate::{Files, ReadFault, Sink, WriteFault};
-use rz_rules::{Bytes, Items, Name};
+use rz_rules::{Bytes, Name};
 use std::alloc::Global;
 use std::marker::Model;
 
 /// A store that never fails, seen as the list of its files. The first of a name counts.
 #[derive(Drop)]
 pub struct GoodFiles {
-    alloc: Global,
-    files: Items<(Name, Bytes)>,
+    files: Vec<(Name, Bytes)>,
 }
 
 impl Model for GoodFiles {
@@ -21,15 +20,15 @@ impl Model for GoodFiles {
 
     ghost Value = { List (List ℕ × List ℕ) };
 
-    ghost view = { λ store. store.files };
+    ghost view = { λ store. store.files.items };
 }
 
 impl GoodFiles {
-    /// A store of these files, whose reads allocate here.
-    pub fn new(alloc: Global, files: Items<(Name, Bytes)>) -> Self
-        ensures { result ≡ files }
+    /// A store of these files. Its reads allocate where the list does.
+    pub fn new(files: Vec<(Name, Bytes)>) -> Self
+        ensures { result ≡ files.items }
     {
-        GoodFiles { alloc, files }
+        GoodFiles { files }
     }
 }
 
@@ -44,10 +43,7 @@ impl Files for GoodFiles {
         ensures never_fails { IsErrOf result ReadFault.Failed → ⊥ }
         ensures kept { self.new ≡ self.old }
     {
-        match find(self.files.as_slice(), name) {
-            Some(bytes) => Ok(bytes.copy(self.alloc)?),
-            None => Err(ReadFault::Missing),
-        }
+        copy_of(*self.files.allocator(), self.files.as_slice(), name)
     }
 
     fn faults(&self) -> u64 {
@@ -89,6 +85,8 @@ impl GoodSink {
 
 impl Sink for GoodSink {
     ghost taken = { λ sink. Some sink };
+
+    ghost offers = { λ _. None };
 
     ghost count = { λ _. 0 };
 

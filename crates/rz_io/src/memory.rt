@@ -1,13 +1,13 @@
 //! A store and a sink in memory whose calls fail by number.
 
-ghost use Rattle.std.specs.Prelude.{◌≡◌, ℕ, ◌<◌, ◌≤◌, ◌↔◌, ◌++◌, [], Some, min, length, take, IfOk, OnOk, OnErr, IsErrOf, IsTrue, IsFalse};
+ghost use Rattle.std.specs.Prelude.{◌≡◌, ◌<◌, ◌≤◌, ◌↔◌, ◌++◌, [], None, Some, min, length, take, IfOk, OnErr, IsErrOf, IsTrue, IsFalse};
 ghost use Rattle.rz_io.specs.Device.{Absent, Present, told_by};
-ghost use Rattle.rz_io.specs.Memory.{no_calls, fails_now, after_call};
+ghost use Rattle.rz_io.specs.Memory.{no_call_yet, next_fails, after_call};
 
-use crate::calls::Calls;
-use crate::listed::find;
+use crate::lookup::copy_of;
+use crate::schedule::FaultSchedule;
 use crate::{Files, ReadFault, Sink, WriteFault};
-use rz_rules::{Bytes, Items, Name, Numbers};
+use rz_rules::{Bytes, Name, Numbers};
 use std::alloc::Global;
 use std::marker::Model;
 
@@ -15,9 +15,8 @@ use std::marker::Model;
 /// file of a name counts.
 #[derive(Drop)]
 pub struct MemoryFiles {
-    alloc: Global,
-    files: Items<(Name, Bytes)>,
-    calls: Calls,
+    files: Vec<(Name, Bytes)>,
+    schedule: FaultSchedule,
 }
 
 impl Model for MemoryFiles {
@@ -25,18 +24,18 @@ impl Model for MemoryFiles {
 
     ghost Value = { Store };
 
-    ghost view = { λ store. record { files = store.files; calls = store.calls } };
+    ghost view = { λ store. record { files = store.files.items; schedule = store.schedule } };
 }
 
 impl MemoryFiles {
-    /// A store of these files, whose reads allocate here, and the numbers of the calls that fail.
-    pub fn new(alloc: Global, files: Items<(Name, Bytes)>, fails: Numbers) -> Self
-        ensures { result ≡ record { files = files; calls = no_calls fails } }
+    /// A store of these files, and the numbers of the calls that fail. Its reads allocate where the
+    /// list does.
+    pub fn new(files: Vec<(Name, Bytes)>, fails: Numbers) -> Self
+        ensures { result ≡ record { files = files.items; schedule = no_call_yet fails } }
     {
         MemoryFiles {
-            alloc,
             files,
-            calls: Calls::new(fails),
+            schedule: FaultSchedule::new(fails),
         }
     }
 }
@@ -44,27 +43,25 @@ impl MemoryFiles {
 impl Files for MemoryFiles {
     ghost told = { λ store. told_by store.files };
 
-    ghost count = { λ store. store.calls.faults };
+    ghost count = { λ store. store.schedule.faults };
 
     fn read(&mut self, name: &str) -> Result<Bytes, ReadFault>
         ensures bytes { IfOk result (λ bytes. told_by self.old.files name.now ≡ Present bytes) }
         ensures missing { IsErrOf result ReadFault.Missing
-            ↔ (IsFalse (fails_now self.old.calls) × (told_by self.old.files name.now ≡ Absent)) }
-        ensures failed { IsErrOf result ReadFault.Failed ↔ IsTrue (fails_now self.old.calls) }
-        ensures counted { self.new ≡ record self.old { calls = after_call self.old.calls } }
-        ensures never_falls { self.old.calls.faults ≤ self.new.calls.faults }
+            ↔ (IsFalse (next_fails self.old.schedule)
+            × (told_by self.old.files name.now ≡ Absent)) }
+        ensures failed { IsErrOf result ReadFault.Failed ↔ IsTrue (next_fails self.old.schedule) }
+        ensures counted { self.new ≡ record self.old { schedule = after_call self.old.schedule } }
+        ensures never_falls { self.old.schedule.faults ≤ self.new.schedule.faults }
     {
-        if self.calls.begin() {
+        if self.schedule.next_call() {
             return Err(ReadFault::Failed);
         }
-        match find(self.files.as_slice(), name) {
-            Some(bytes) => Ok(bytes.copy(self.alloc)?),
-            None => Err(ReadFault::Missing),
-        }
+        copy_of(*self.files.allocator(), self.files.as_slice(), name)
     }
 
     fn faults(&self) -> u64 {
-        self.calls.faults()
+        self.schedule.faults()
     }
 }
 
@@ -74,7 +71,7 @@ impl Files for MemoryFiles {
 pub struct MemorySink {
     chunk: u64,
     bytes: Bytes,
-    calls: Calls,
+    schedule: FaultSchedule,
 }
 
 impl Model for MemorySink {
@@ -83,7 +80,11 @@ impl Model for MemorySink {
 
     ghost Value = { Outlet };
 
-    ghost view = { λ sink. record { chunk = sink.chunk; bytes = sink.bytes; calls = sink.calls } };
+    ghost view = { λ sink. record {
+      chunk = sink.chunk;
+      bytes = sink.bytes;
+      schedule = sink.schedule;
+    } };
 
     ghost invariant = { λ sink. 0 < sink.chunk };
 }
@@ -93,12 +94,12 @@ impl MemorySink {
     /// then come the numbers of the calls that fail.
     pub fn new(alloc: Global, chunk: u64, fails: Numbers) -> Self
         requires { 0 < chunk }
-        ensures { result ≡ record { chunk = chunk; bytes = []; calls = no_calls fails } }
+        ensures { result ≡ record { chunk = chunk; bytes = []; schedule = no_call_yet fails } }
     {
         MemorySink {
             chunk,
             bytes: Bytes::new(alloc),
-            calls: Calls::new(fails),
+            schedule: FaultSchedule::new(fails),
         }
     }
 
@@ -113,7 +114,9 @@ impl MemorySink {
 impl Sink for MemorySink {
     ghost taken = { λ sink. Some sink.bytes };
 
-    ghost count = { λ sink. sink.calls.faults };
+    ghost offers = { λ _. None };
+
+    ghost count = { λ sink. sink.schedule.faults };
 
     fn write(&mut self, piece: &[u8]) -> Result<u64, WriteFault>
         requires { 0 < length piece.now }
@@ -122,14 +125,16 @@ impl Sink for MemorySink {
         ensures chunk { IfOk result (λ n. n ≡ min self.old.chunk (length piece.now)) }
         ensures ok { IfOk result (λ n. self.new ≡ record self.old {
           bytes = self.old.bytes ++ take n piece.now;
-          calls = after_call self.old.calls;
+          schedule = after_call self.old.schedule;
         }) }
-        ensures err { OnErr result (self.new ≡ record self.old { calls = after_call self.old.calls }) }
+        ensures err { OnErr result (self.new ≡ record self.old {
+          schedule = after_call self.old.schedule;
+        }) }
 
-        ensures failed { IsErrOf result WriteFault.Failed ↔ IsTrue (fails_now self.old.calls) }
-        ensures never_falls { self.old.calls.faults ≤ self.new.calls.faults }
+        ensures failed { IsErrOf result WriteFault.Failed ↔ IsTrue (next_fails self.old.schedule) }
+        ensures never_falls { self.old.schedule.faults ≤ self.new.schedule.faults }
     {
-        if self.calls.begin() {
+        if self.schedule.next_call() {
             return Err(WriteFault::Failed);
         }
         let taken = self.chunk.min(piece.len() as u64);
@@ -138,6 +143,6 @@ impl Sink for MemorySink {
     }
 
     fn faults(&self) -> u64 {
-        self.calls.faults()
+        self.schedule.faults()
     }
 }

@@ -1,7 +1,7 @@
 //! A sink that takes bytes in pieces.
 
 ghost use Rattle.std.specs.Prelude.{◌≡◌, ℕ, ◌≤◌, ◌<◌, Option, List, [], length, take, IfOk, OnOk, OnErr, IsOk, IsErrOf};
-ghost use Rattle.rz_io.specs.Device.{Rose, Grows, GrowsByPrefix};
+ghost use Rattle.rz_io.specs.Device.{Rose, Gains, GainsPart, Offer, offers_of, IsOffered};
 ghost use Rattle.rz_io.specs.declared.sink.WriteFault.TheVariants.{OutOfMemory};
 
 use rz_rules::Bytes;
@@ -37,6 +37,9 @@ pub trait Sink {
     /// All bytes that it took so far, or `None` where it doesn't tell.
     ghost taken: { Self → Option (List ℕ) };
 
+    /// All pieces that it was offered so far, or `None` where it doesn't tell.
+    ghost offers: { Self → Option (List Offer) };
+
     /// How many faults there were so far, up to 2^64 - 1.
     ghost count: { Self → ℕ };
 
@@ -46,8 +49,9 @@ pub trait Sink {
 
         ensures some { IfOk result (λ n. 0 < n) }
         ensures within { IfOk result (λ n. n ≤ length piece.now) }
-        ensures ok { IfOk result (λ n. Grows (taken self.old) (taken self.new) (take n piece.now)) }
-        ensures err { OnErr result (Grows (taken self.old) (taken self.new) []) }
+        ensures ok { IfOk result (λ n. Gains (taken self.old) (taken self.new) (take n piece.now)) }
+        ensures err { OnErr result (Gains (taken self.old) (taken self.new) []) }
+        ensures offered { Gains (offers self.old) (offers self.new) (offers_of piece.now result) }
 
         ensures failed { IsErrOf result WriteFault.Failed → Rose (count self.old) (count self.new) }
         ensures never_falls { count self.old ≤ count self.new };
@@ -57,11 +61,11 @@ pub trait Sink {
         ensures { result ≡ count self.now };
 }
 
-/// Writes all bytes, from the front. Each write offers all that is left, and the first that is
-/// refused ends the call with its fault.
+/// Writes all bytes, from the front. The first write that is refused ends the call with its fault.
 pub fn write_all<S: Sink>(out: &mut S, bytes: &Bytes) -> Result<(), WriteFault>
-    ensures all { OnOk result (Grows (S.taken out.old) (S.taken out.new) bytes.now) }
-    ensures prefix { OnErr result (GrowsByPrefix (S.taken out.old) (S.taken out.new) bytes.now) }
+    ensures all { OnOk result (Gains (S.taken out.old) (S.taken out.new) bytes.now) }
+    ensures part { OnErr result (GainsPart (S.taken out.old) (S.taken out.new) bytes.now) }
+    ensures offered { IsOffered (S.offers out.old) (S.offers out.new) bytes.now }
 
     ensures failed { IsErrOf result WriteFault.Failed → Rose (S.count out.old) (S.count out.new) }
     ensures never_falls { S.count out.old ≤ S.count out.new }

@@ -1,14 +1,14 @@
-ghost use Rattle.std.specs.Prelude.{◌<◌, None};
+ghost use Rattle.std.specs.Prelude.{◌<◌, None, Some};
 
-use crate::disk::{read_whole, zeros};
+use crate::reader::{read_whole, zeros};
 use crate::{
-    DiskFiles, Files, GoodFiles, GoodSink, MemoryFiles, MemorySink, ReadFault, Sink, StdSink,
-    WriteFault, write_all,
+    DiskFiles, Files, GoodFiles, GoodSink, MemoryFiles, MemorySink, Opener, ReadFault, ReaderFiles,
+    Sink, StdSink, WriteFault, WriterSink, write_all,
 };
 use rz_rules::{Bytes, Items, Name, Numbers, OutOfMemory};
 use std::alloc::Global;
 use std::fmt::Display;
-use std::io::{ErrorKind, Read};
+use std::io::{ErrorKind, Read, Write};
 use std::test::Fail;
 use std::{env, fs, io, process};
 
@@ -27,8 +27,8 @@ fn reads<F: Files>(
 }
 
 /// A file `a` that says one, an empty file `b`, and a second `a` that doesn't count.
-fn three_files(alloc: Global) -> Result<Items<(Name, Bytes)>, OutOfMemory> {
-    let mut files = Items::new(alloc);
+fn three_files(alloc: Global) -> Result<Vec<(Name, Bytes)>, OutOfMemory> {
+    let mut files = Vec::new(alloc);
     for (name, text) in [("a", "one"), ("b", ""), ("a", "two")] {
         let name = Name::from_text(alloc, name)?;
         let bytes = Bytes::from_slice(alloc, text.as_bytes())?;
@@ -40,7 +40,7 @@ fn three_files(alloc: Global) -> Result<Items<(Name, Bytes)>, OutOfMemory> {
 #[test]
 fn a_good_store_answers_what_it_tells(rt: HostRuntime) -> Result<(), Fail> {
     let alloc = rt.alloc();
-    let mut good = GoodFiles::new(alloc, three_files(alloc)?);
+    let mut good = GoodFiles::new(three_files(alloc)?);
     assert!(rt; reads(&mut good, "a", Ok(b"one"))?);
     assert!(rt; reads(&mut good, "b", Ok(b""))?);
     assert!(rt; reads(&mut good, "c", Err(ReadFault::Missing))?);
@@ -72,7 +72,7 @@ fn reads_thrice(
 ) -> Result<bool, OutOfMemory> {
     let [first, second, third] = wanted;
     let fails = Numbers::from_slice(alloc, fails)?;
-    let mut store = MemoryFiles::new(alloc, three_files(alloc)?, fails);
+    let mut store = MemoryFiles::new(three_files(alloc)?, fails);
     Ok(
         reads(&mut store, "a", first)?
             && reads(&mut store, "c", second)?
@@ -140,21 +140,25 @@ fn a_good_sink_takes_all(rt: HostRuntime) -> Result<(), Fail> {
     Ok(())
 }
 
-/// A sink that takes two bytes at most, and keeps how many each write offered.
+/// A sink that takes two bytes at most, and tells what it was offered.
 #[derive(Drop)]
-struct Offers {
-    lengths: Numbers,
+struct Witness {
+    alloc: Global,
+    offers: Items<(Bytes, u64)>,
 }
 
-impl Sink for Offers {
+impl Sink for Witness {
     ghost taken = { λ _. None };
+
+    ghost offers = { λ witness. Some witness.offers };
 
     ghost count = { λ _. 0 };
 
     fn write(&mut self, piece: &[u8]) -> Result<u64, WriteFault> {
-        let offered = piece.len() as u64;
-        self.lengths.push(offered)?;
-        Ok(offered.min(2))
+        let taken = (piece.len() as u64).min(2);
+        let offered = Bytes::from_slice(self.alloc, piece)?;
+        self.offers.push((offered, taken))?;
+        Ok(taken)
     }
 
     fn faults(&self) -> u64 {
@@ -165,12 +169,18 @@ impl Sink for Offers {
 #[test]
 fn each_write_offers_all_that_is_left(rt: HostRuntime) -> Result<(), Fail> {
     let alloc = rt.alloc();
-    let mut out = Offers {
-        lengths: Numbers::new(alloc),
+    let mut out = Witness {
+        alloc,
+        offers: Items::new(alloc),
     };
-    write_all(&mut out, &Bytes::from_slice(alloc, b"seven..")?)?;
-    assert_eq!(rt; out.lengths.as_slice(), [7, 5, 3, 1].as_slice());
+    write_all(&mut out, &Bytes::from_slice(alloc, b"five.")?)?;
     assert_eq!(rt; out.faults(), 0);
+    let offers = [("five.", 2), ("ve.", 2), (".", 1)];
+    assert_eq!(rt; out.offers.len(), 3);
+    for ((piece, taken), (wanted, count)) in out.offers.as_slice().iter().zip(offers.iter()) {
+        assert_eq!(rt; piece.as_slice(), wanted.as_bytes());
+        assert_eq!(rt; *taken, *count);
+    }
     Ok(())
 }
 
@@ -195,6 +205,90 @@ impl Read for Slow {
     }
 }
 
+/// A reader or a writer that a signal interrupts before each byte or piece.
+#[derive(Drop)]
+struct Interrupted<D> {
+    device: D,
+    ready: bool,
+}
+
+impl<R: Read> Read for Interrupted<R> {
+    ghost remaining = { λ reader. R.remaining reader.device };
+
+    fn read(&mut self, buffer: &mut [u8]) -> io::Result<usize> {
+        self.ready = !self.ready;
+        if self.ready {
+            return Err(io::Error::from(ErrorKind::Interrupted));
+        }
+        self.device.read(buffer)
+    }
+}
+
+impl<W: Write> Write for Interrupted<W> {
+    ghost contents = { λ writer. W.contents writer.device };
+
+    fn write(&mut self, piece: &[u8]) -> io::Result<usize> {
+        self.ready = !self.ready;
+        if self.ready {
+            return Err(io::Error::from(ErrorKind::Interrupted));
+        }
+        self.device.write(&piece[..piece.len().min(4)])
+    }
+
+    fn flush(&mut self) -> io::Result<()> {
+        self.device.flush()
+    }
+}
+
+/// Opens one text under each name.
+#[derive(Drop)]
+struct OneText<'a> {
+    text: &'a [u8],
+}
+
+impl<'a> Opener for OneText<'a> {
+    type Reader = Interrupted<&'a [u8]>;
+
+    ghost holds = { λ opener _. Some opener.text.now };
+
+    fn open(&self, _name: &str) -> io::Result<Interrupted<&'a [u8]>> {
+        Ok(Interrupted {
+            device: self.text,
+            ready: false,
+        })
+    }
+}
+
+/// Opens no file, for this reason.
+#[derive(Drop)]
+struct Closed {
+    kind: ErrorKind,
+}
+
+impl Opener for Closed {
+    type Reader = Slow;
+
+    ghost holds = { λ _ _. None };
+
+    fn open(&self, _name: &str) -> io::Result<Slow> {
+        Err(io::Error::from(self.kind))
+    }
+}
+
+#[test]
+fn a_file_that_is_not_opened_is_a_fault(rt: HostRuntime) -> Result<(), Fail> {
+    let rows = [
+        (ErrorKind::NotFound, ReadFault::Failed, 1),
+        (ErrorKind::OutOfMemory, ReadFault::OutOfMemory, 0),
+    ];
+    for (kind, fault, faults) in rows {
+        let mut files = ReaderFiles::from_opener(rt.alloc(), Closed { kind });
+        assert_eq!(rt; files.read("a").err(), Some(fault));
+        assert_eq!(rt; files.faults(), faults);
+    }
+    Ok(())
+}
+
 /// Why a read failed, where memory was found for it.
 fn failure(answer: io::Result<Bytes>) -> io::Result<Option<ErrorKind>> {
     match answer {
@@ -204,20 +298,39 @@ fn failure(answer: io::Result<Bytes>) -> io::Result<Option<ErrorKind>> {
     }
 }
 
+/// A reader of three bytes, each after an interruption, that fails or ends then.
+fn three_bytes(fails: bool) -> Interrupted<Slow> {
+    Interrupted {
+        device: Slow { left: 3, fails },
+        ready: false,
+    }
+}
+
 #[test]
 fn a_reader_is_read_to_its_end(rt: HostRuntime) -> Result<(), Fail> {
     let alloc = rt.alloc();
-    let mut ends = Slow {
-        left: 3,
-        fails: false,
-    };
-    assert_eq!(rt; read_whole(alloc, &mut ends)?.as_slice(), b"xxx".as_slice());
-    let mut breaks = Slow {
-        left: 3,
-        fails: true,
-    };
-    let broken = failure(read_whole(alloc, &mut breaks))?;
+    let whole = read_whole(alloc, &mut three_bytes(false))?;
+    assert_eq!(rt; whole.as_slice(), b"xxx".as_slice());
+    let broken = failure(read_whole(alloc, &mut three_bytes(true)))?;
     assert_eq!(rt; broken, Some(ErrorKind::BrokenPipe));
+
+    let mut files = ReaderFiles::from_opener(alloc, OneText { text: b"one" });
+    assert!(rt; reads(&mut files, "a", ONE)?);
+    assert!(rt; reads(&mut files, "a", ONE)?);
+    assert_eq!(rt; files.faults(), 0);
+    Ok(())
+}
+
+#[test]
+fn a_writer_is_handed_all(rt: HostRuntime) -> Result<(), Fail> {
+    let alloc = rt.alloc();
+    let mut out = WriterSink::from_writer(Interrupted {
+        device: Vec::new(alloc),
+        ready: false,
+    });
+    write_all(&mut out, &Bytes::from_slice(alloc, TEXT)?)?;
+    assert_eq!(rt; out.writer().device.as_slice(), TEXT);
+    assert_eq!(rt; out.faults(), 0);
     Ok(())
 }
 
@@ -287,9 +400,10 @@ fn the_output_counts_its_faults(rt: HostRuntime) -> Result<(), Fail> {
         (Some(ErrorKind::OutOfMemory), WriteFault::OutOfMemory, 0),
     ];
     for (kind, fault, faults) in rows {
-        let mut stuck = StdSink::new(Stuck { kind });
-        assert_eq!(rt; write_all(&mut stuck, &text), Err(fault));
-        assert_eq!(rt; stuck.faults(), faults);
+        let stuck = Stuck { kind };
+        let mut out = StdSink::new(&stuck);
+        assert_eq!(rt; write_all(&mut out, &text), Err(fault));
+        assert_eq!(rt; out.faults(), faults);
     }
     Ok(())
 }

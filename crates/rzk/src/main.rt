@@ -4,7 +4,9 @@
 
 mod stop;
 
-ghost use Rattle.std.specs.Prelude.{◌≡◌, ◌<◌, IfOk};
+ghost use Rattle.std.specs.Prelude.{◌≡◌, ◌≢◌, ◌⊎◌, ◌<◌, None, IfOk, map, string_bytes};
+ghost use Rattle.rz_app.specs.Command.{command};
+ghost use Rattle.rz_app.specs.Answer.{IsStatus};
 
 use rz_app::rzk;
 use rz_io::{DiskFiles, StdSink};
@@ -30,7 +32,7 @@ fn main(rt: HostRuntime) -> ExitCode {
     }
 }
 
-/// The status of the top call, whose steps nobody counts.
+/// The status of the top call on the words of the command line.
 fn run<L: Ledger>(rt: &HostRuntime, blank: Blank) -> Result<u8, Stop>
     requires name { blank.name ≡ L.name }
     requires parts { blank.parts ≡ L.parts }
@@ -38,19 +40,28 @@ fn run<L: Ledger>(rt: &HostRuntime, blank: Blank) -> Result<u8, Stop>
     ensures { IfOk result (λ status. status < 5) }
 {
     let words = words(rt)?;
-    let mut files = DiskFiles::new(rt);
-    let mut out = StdSink::new(rt);
-    let mut steps = Steps::<L>::new(blank);
-    match rzk(
-        rt.alloc(),
-        words.as_slice(),
-        &mut files,
-        &mut out,
-        &mut steps,
-    ) {
+    match call::<L>(rt, words.as_slice(), blank) {
         NO_MEMORY => Err(Stop::NoMemory),
         status => Ok(status),
     }
+}
+
+/// The status of the top call on these words, over the disk and the standard output. Nobody counts
+/// its steps.
+fn call<L: Ledger>(rt: &HostRuntime, words: &[String], blank: Blank) -> u8
+    requires name { blank.name ≡ L.name }
+    requires parts { blank.parts ≡ L.parts }
+    requires some { 0 < blank.parts }
+
+    ensures known { (result ≡ 3) ⊎ (result ≡ 4) ⊎ (result ≡ 5)
+        ⊎ IsStatus (command (map string_bytes words.now)) result }
+    ensures no_command { command (map string_bytes words.now) ≡ None
+        → result ≢ 4 → result ≢ 5 → result ≡ 2 }
+{
+    let mut files = DiskFiles::new(rt);
+    let mut out = StdSink::new(rt);
+    let mut steps = Steps::<L>::new(blank);
+    rzk(rt.alloc(), words, &mut files, &mut out, &mut steps)
 }
 
 /// The words after the program's name; none where one of them isn't UTF-8.

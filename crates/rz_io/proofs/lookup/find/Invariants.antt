@@ -1,6 +1,6 @@
 use Rattle.std.proofs.Common.{◌≡◌, drop}
 use Rattle.rz_io.specs.Device.{told_by}
-use Rattle.rz_io.proofs.listed.find.Given as goal
+use Rattle.rz_io.proofs.lookup.find.Given as goal
 
 -- the files that are left tell what all tell
 abbrev pub invariant-loop-file : goal.invariant-loop-file
