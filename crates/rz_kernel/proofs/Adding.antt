@@ -1,25 +1,21 @@
--- What is known after a node is added.
-use Rattle.std.proofs.Common.{◌≡◌, ◌≢◌, ℕ, ◌<◌, ◌≤◌, true, List, [], ◌∷◌, ◌++◌, length, get_or, map, All, Some, refl, sym, ap, subst, ◌∙◌, arith}
-use Rattle.std.specs.Prelude.{slice_get, option_map}
+-- Nodes and judgments of the file over the ids of their nodes in the pool, and the state after one item more.
+use Rattle.std.proofs.Common.{◌≡◌, ℕ, ◌<◌, ◌≤◌, List, [], ◌∷◌, ◌++◌, length, get_or, map, All, refl, sym, ap, subst, ◌∙◌, arith}
 use Rattle.std.proofs.lemmas.List.{length-map, map-append, get_or-map}
-use Rattle.std.proofs.lemmas.List.Elements.{All-head, All-tail, All-map}
-use Rattle.rz_rules.specs.declared.kinds.Kind.{Kind}
-use Rattle.rz_rules.specs.declared.kinds.Kind.TheVariants.{Constant, Postulate}
-use Rattle.rz_rules.specs.declared.kinds.Sort.{Sort}
-use Rattle.rz_rules.specs.declared.kinds.Sort.TheVariants.{Term}
+use Rattle.std.proofs.lemmas.List.Elements.{All-head, All-tail, All-map, All-push}
 use Rattle.rz_rules.specs.declared.nodes.Node.{Node}
+use Rattle.rz_rules.specs.declared.judgments.Judgment.{Judgment}
 use Rattle.rz_rules.specs.declared.judgments.Line.{Line}
-use Rattle.rz_rules.specs.Form.{form, kid_sorts, is_named}
-use Rattle.rz_rules.specs.Tree.{Tree, At, trees_of, blank, sort_of, tree_at, tree_of, tree_over, trees_in}
-use Rattle.rz_rules.specs.Judgment.{Statement, head_of, ids_of, statement}
-use Rattle.rz_rules.specs.File.{Known, NodeFits, NodeItem, after}
-use Rattle.rz_pool.specs.Pool.{HasForm, Grows}
-use Rattle.rz_kernel_rows.specs.Matching.{IsLive, statements_of}
-use Rattle.rz_kernel_rows.proofs.Scopes.{same_trees}
-use Rattle.rz_kernel_rows.proofs.Lists.{slice_get-map, slice_get_there}
-use Rattle.rz_kernel.proofs.Sorts.{sorts_there}
+use Rattle.rz_rules.specs.Tree.{Tree, At, HasForm, trees_of, blank, sort_of, tree_at, tree_of, tree_over, trees_in}
+use Rattle.rz_rules.specs.Judgment.{Statement, kind_of, ids_of, context_of, parts_of, statement}
+use Rattle.rz_rules.proofs.Trees.{trees_of-append}
+use Rattle.rz_pool.specs.Pool.{Grows}
+use Rattle.rz_rules.specs.Derivation.{Step}
+use Rattle.rz_rules.specs.File.{StepFits, StepItem, extended, statement_at, step_over}
+use Rattle.rz_kernel_rows.specs.Line.{IsLineOver, IsJudgmentOver, statements_of, step_of, said}
+use Rattle.rz_kernel.specs.declared.state.KernelState.{KernelState}
+use Rattle.rz_kernel.specs.State.{file_state, claims_of, with_tree, IsKernelState}
 
--- the trees of ids of the file are those of their places
+-- the trees of ids of the file are those of their ids in the pool
 pub placed_trees : (ts : List Tree) (places ids : List ℕ) → All (λ id. id < length places) ids
     → map (tree_at (map (tree_at ts) places)) ids ≡ map (tree_at ts) (map (λ id. get_or places id 0) ids)
 placed_trees ts places [] h = refl
@@ -29,77 +25,132 @@ placed_trees ts places (id ∷ ids) h =
     let rest = placed_trees ts places ids (All-tail P id ids h) in
     cc
 
--- ids of kids that fit are there
-pub kids_there : (known : Known) (n : Node) (count : ℕ) → NodeFits known n → length known.trees ≡ count → All (λ id. id < count) n.kids
-kids_there known n count fits e = subst (λ (k : ℕ). All (λ id. id < k) n.kids) e (sorts_there known.trees n.kids (kid_sorts n.kind) fits.kids).0
-
 pub places_low : (places ids : List ℕ) (limit : ℕ) → All (λ p. p < limit) places → All (λ id. id < length places) ids → All (λ p. p < limit) (map (λ id. get_or places id 0) ids)
 places_low places ids limit low there = All-map (λ p. p < limit) (λ id. get_or places id 0) ids (λ k d lt. low (get_or ids k d) 0 (there k d lt))
 
--- only terms have names
-unnamed : (kind : Kind) → (form kind).sort ≢ Term → is_named (form kind).role ≡ true → ⊥
-unnamed Constant ne e = ne refl
-unnamed Postulate ne e = ne refl
-unnamed kind ne e = absurd cc
+-- a node of the file has the form of its kind where it has it over the pool
+module _ (ns : List Node) (places : List ℕ) (low : All (λ p. p < length ns) places) (node placed : Node)
+    (kind : placed.kind ≡ node.kind) (number : placed.number ≡ node.number) (name : placed.name ≡ node.name)
+    (there : All (λ id. id < length places) node.kids) (kids : placed.kids ≡ map (λ id. get_or places id 0) node.kids) where
+  abbrev moved : Node
+  moved = record { kind = node.kind; number = node.number; name = node.name; kids = map (λ id. get_or places id 0) node.kids }
 
--- the sorts of places
-placed_sorts : (ns : List Node) (places ids : List ℕ) (sorts : List Sort) → All (λ id. id < length places) ids
-    → map (λ id. option_map sort_of (slice_get (map (tree_of ns) places) id)) ids ≡ map (λ sort. Some sort) sorts
-    → map sort_of (map (tree_of ns) (map (λ id. get_or places id 0) ids)) ≡ sorts
-placed_sorts ns places [] [] h e = refl
-placed_sorts ns places [] (s ∷ sorts) h e = absurd cc
-placed_sorts ns places (id ∷ ids) [] h e = absurd cc
-placed_sorts ns places (id ∷ ids) (s ∷ sorts) h e =
-    let P : ℕ → Type 0 = λ id. id < length places in
-    let first : option_map sort_of (slice_get (map (tree_of ns) places) id) ≡ Some s = cc in
-    let there : option_map sort_of (slice_get (map (tree_of ns) places) id) ≡ Some (sort_of (tree_of ns (get_or places id 0))) =
-    ap (option_map sort_of) (slice_get-map (tree_of ns) places id ∙ ap (option_map (tree_of ns)) (slice_get_there places id 0 (All-head P id ids h))) in
-    let here : sort_of (tree_of ns (get_or places id 0)) ≡ s = (let both : Some (sort_of (tree_of ns (get_or places id 0))) ≡ Some s = sym there ∙ first in cc) in
-    let others : map (λ id. option_map sort_of (slice_get (map (tree_of ns) places) id)) ids ≡ map (λ sort. Some sort) sorts = cc in
-    let rest : map sort_of (map (tree_of ns) (map (λ id. get_or places id 0) ids)) ≡ sorts = placed_sorts ns places ids sorts (All-tail P id ids h) others in
-    cc
+  moved_is : placed ≡ moved
+  moved_is = λ i. record { kind = kind i; number = number i; name = name i; kids = kids i }
 
--- a node of the file that fits, over its places
-pub placed_form : (ns : List Node) (places : List ℕ) (known : Known) (n : Node) (kids : List ℕ) → known.trees ≡ map (tree_of ns) places → All (λ p. p < length ns) places
-    → NodeFits known n → kids ≡ map (λ id. get_or places id 0) n.kids → HasForm ns (length ns) (record { kind = n.kind; number = n.number; name = n.name; kids = kids })
-placed_form ns places known n kids trees low fits are =
-    let there = kids_there known n (length places) fits (ap length trees ∙ length-map places (tree_of ns)) in
-    record {
-      kids = subst (λ (ids : List ℕ). All (λ id. id < length ns) ids) (sym are) (places_low places n.kids (length ns) low there);
-      sorts = ap (λ (ids : List ℕ). map sort_of (map (tree_of ns) ids)) are
-          ∙ placed_sorts ns places n.kids (kid_sorts n.kind) there (ap (λ (ts : List Tree). map (λ id. option_map sort_of (slice_get ts id)) n.kids) (sym trees) ∙ fits.kids);
-      number = fits.number;
-      unnumbered = fits.unnumbered;
-      unnamed = λ _. fits.unnamed;
-      named = λ e. absurd (unnamed n.kind fits.sort e);
-    }
+  trees : map (tree_at (map (tree_of ns) places)) node.kids ≡ map (tree_of ns) (map (λ id. get_or places id 0) node.kids)
+  trees = placed_trees (trees_in ns) places node.kids there
+
+  pub node_tree : tree_over (trees_in ns) placed ≡ tree_over (map (tree_of ns) places) node
+  node_tree = ap (tree_over (trees_in ns)) moved_is ∙ ap (λ (ts : List Tree). At node.kind node.number node.name (trees_of ts)) (sym trees)
+
+  pub form_in_pool : HasForm (map (tree_of ns) places) (length (map (tree_of ns) places)) node → HasForm (trees_in ns) (length ns) placed
+  form_in_pool h = subst (HasForm (trees_in ns) (length ns)) (sym moved_is) (record {
+    kids = places_low places node.kids (length ns) low there;
+    sorts = ap (map sort_of) (sym trees) ∙ h.sorts;
+    label = h.label;
+  })
+
+  pub form_in_file : HasForm (trees_in ns) (length ns) placed → HasForm (map (tree_of ns) places) (length (map (tree_of ns) places)) node
+  form_in_file g =
+      let h = subst (HasForm (trees_in ns) (length ns)) moved_is g in
+      record {
+        kids = subst (λ (k : ℕ). All (λ id. id < k) node.kids) (sym (length-map places (tree_of ns))) there;
+        sorts = ap (map sort_of) trees ∙ h.sorts;
+        label = h.label;
+      }
 
 -- what was said stays
-same_said : (ns ms : List Node) → Grows ns ms → (lines : List Line) → All (IsLive ns) lines → statements_of ms lines ≡ statements_of ns lines
-same_said ns ms grows [] live = refl
-same_said ns ms grows (line ∷ lines) live =
-    let parts : map (tree_of ms) (ids_of line.says) ≡ map (tree_of ns) (ids_of line.says) = same_trees ns ms grows (ids_of line.says) (All-head (IsLive ns) line lines live) in
-    let first : statement (trees_in ms) line.says ≡ statement (trees_in ns) line.says = ap (λ (ts : List Tree). record { head = head_of line.says; parts = ts }) parts in
-    let rest : statements_of ms lines ≡ statements_of ns lines = same_said ns ms grows lines (All-tail (IsLive ns) line lines live) in
+pub same_trees : (ns ms : List Node) → Grows ns ms → (ids : List ℕ) → All (λ id. id < length ns) ids → map (tree_of ms) ids ≡ map (tree_of ns) ids
+same_trees ns ms grows ids low = ap (λ (ns : List Node). map (tree_of ns) ids) grows.is ∙ trees_of-append ns grows.added ids low
+
+same_statement : (ns ms : List Node) → Grows ns ms → (says : Judgment) → IsJudgmentOver ns says → statement (trees_in ms) says ≡ statement (trees_in ns) says
+same_statement ns ms grows says over =
+    let all : map (tree_of ms) (ids_of says) ≡ map (tree_of ns) (ids_of says) = same_trees ns ms grows (ids_of says) over.live in
+    let context : tree_of ms (context_of says) ≡ tree_of ns (context_of says) = cc in
+    let parts : map (tree_of ms) (parts_of says) ≡ map (tree_of ns) (parts_of says) = cc in
+    λ i. record { kind = kind_of says; context = context i; parts = parts i }
+
+pub same_said : (ns ms : List Node) → Grows ns ms → (lines : List Line) → All (IsLineOver ns) lines → statements_of ms lines ≡ statements_of ns lines
+same_said ns ms grows [] over = refl
+same_said ns ms grows (line ∷ lines) over =
+    let first = same_statement ns ms grows line.says (All-head (IsLineOver ns) line lines over) in
+    let rest : statements_of ms lines ≡ statements_of ns lines = same_said ns ms grows lines (All-tail (IsLineOver ns) line lines over) in
     joined first rest where
       joined : {x y : Statement} {xs ys : List Statement} → x ≡ y → xs ≡ ys → x ∷ xs ≡ y ∷ ys
       joined p q = cc
 
--- what is known after a node is added, whose kids are places
-pub known_added : (ns ms : List Node) (places : List ℕ) (lines : List Line) (claims place : ℕ) (n : Node) (kids : List ℕ) → Grows ns ms
-    → All (λ p. p < length ns) places → All (IsLive ns) lines → All (λ id. id < length places) n.kids → kids ≡ map (λ id. get_or places id 0) n.kids
-    → tree_of ms place ≡ tree_over (trees_in ns) (record { kind = n.kind; number = n.number; name = n.name; kids = kids })
-    → record { trees = map (tree_of ms) (places ++ place ∷ []); statements = statements_of ms lines; claims = claims }
-    ≡ after (record { trees = map (tree_of ns) places; statements = statements_of ns lines; claims = claims }) (NodeItem n)
-known_added ns ms places lines claims place n kids grows low live there are tree = λ i. record { trees = trees i; statements = same_said ns ms grows lines live i; claims = claims } where
-  node : tree_over (trees_in ns) (record { kind = n.kind; number = n.number; name = n.name; kids = kids }) ≡ tree_over (map (tree_of ns) places) n
-  node = ap (λ (ts : List Tree). At n.kind n.number n.name (trees_of ts)) (ap (map (tree_of ns)) are ∙ sym (placed_trees (trees_in ns) places n.kids there))
+-- what a judgment is over stays
+over_more : (ns ms : List Node) → Grows ns ms → length ns ≤ length ms → (says : Judgment) → IsJudgmentOver ns says → IsJudgmentOver ms says
+over_more ns ms grows longer says over = record {
+  live = λ k d lt. omega (arith, longer, over.live k d lt);
+  sorts = ap (map sort_of) (same_trees ns ms grows (ids_of says) over.live) ∙ over.sorts;
+}
 
-  trees : map (tree_of ms) (places ++ place ∷ []) ≡ map (tree_of ns) places ++ tree_over (map (tree_of ns) places) n ∷ []
-  trees = map-append (tree_of ms) places (place ∷ [])
-      ∙ ap (λ (ts : List Tree). ts ++ tree_of ms place ∷ []) (same_trees ns ms grows places low)
-      ∙ ap (λ (t : Tree). map (tree_of ns) places ++ t ∷ []) (tree ∙ node)
+pub lines_over : (ns ms : List Node) → Grows ns ms → length ns ≤ length ms → (lines : List Line) → All (IsLineOver ns) lines → All (IsLineOver ms) lines
+lines_over ns ms grows longer lines over k d lt = over_more ns ms grows longer (get_or lines k d).says (over k d lt)
 
--- what is kept stays there
-pub lines_live : (ns ms : List Node) → length ns ≤ length ms → (lines : List Line) → All (IsLive ns) lines → All (IsLive ms) lines
-lines_live ns ms longer lines live k d lt k' d' lt' = omega (arith, longer, live k d lt k' d' lt')
+-- one step more
+pub said_more : (ns : List Node) (lines : List Line) (line : Line) → statements_of ns (lines ++ line ∷ []) ≡ statements_of ns lines ++ statement (trees_in ns) line.says ∷ []
+said_more ns lines line =
+    ap (map (statement (trees_in ns))) (map-append (λ l. l.says) lines (line ∷ []))
+    ∙ map-append (statement (trees_in ns)) (said lines) (line.says ∷ [])
+
+-- one claim more
+pub claims_more : (statements : List Statement) (claims : List (List ℕ × ℕ)) (claim : List ℕ × ℕ)
+    → claims_of statements (claims ++ claim ∷ []) ≡ claims_of statements claims ++ record { name = claim.0; says = statement_at statements claim.1 } ∷ []
+claims_more statements claims claim = map-append (λ (claim : List ℕ × ℕ). record { name = claim.0; says = statement_at statements claim.1 }) claims (claim ∷ [])
+
+pub claims_count : (statements : List Statement) (claims : List (List ℕ × ℕ)) → length (claims_of statements claims) ≡ length claims
+claims_count statements claims = length-map claims (λ (claim : List ℕ × ℕ). record { name = claim.0; says = statement_at statements claim.1 })
+
+no_claims : (statements more : List Statement) (claims : List (List ℕ × ℕ)) → claims_of statements claims ≡ [] → claims_of more claims ≡ claims_of statements claims
+no_claims statements more [] e = refl
+no_claims statements more (claim ∷ claims) e = absurd cc
+
+-- ---- the state after an item
+
+-- after a node
+pub state_with_tree : (state : KernelState) (ms : List Node) (place : ℕ) (node : Node) → Grows state.pool.nodes ms → IsKernelState state
+    → tree_of ms place ≡ tree_over (trees_in state.pool.nodes) node → (places : List ℕ) → places ≡ state.places.items ++ place ∷ []
+    → record { trees = map (tree_of ms) places; statements = statements_of ms state.lines.items; claims = claims_of (statements_of ms state.lines.items) state.claims.items }
+    ≡ with_tree state node
+state_with_tree state ms place node grows is tree places are =
+    λ i. record { trees = trees i; statements = said i; claims = claims_of (said i) state.claims.items } where
+      ns : List Node
+      ns = state.pool.nodes
+
+      said : statements_of ms state.lines.items ≡ statements_of state.pool.nodes state.lines.items
+      said = same_said state.pool.nodes ms grows state.lines.items is.lines
+
+      trees : map (tree_of ms) places ≡ map (tree_of state.pool.nodes) state.places.items ++ tree_over (trees_in state.pool.nodes) node ∷ []
+      trees = ap (map (tree_of ms)) are ∙ map-append (tree_of ms) state.places.items (place ∷ [])
+          ∙ ap (λ (ts : List Tree). ts ++ tree_of ms place ∷ []) (same_trees state.pool.nodes ms grows state.places.items is.places)
+          ∙ ap (λ (t : Tree). map (tree_of state.pool.nodes) state.places.items ++ t ∷ []) tree
+
+-- after a step, whose row left the pool as it was
+pub state_more : (state : KernelState) (ms : List Node) → ms ≡ state.pool.nodes → (placed line : Line)
+    → step_of state.pool.nodes placed ≡ step_over (file_state state).trees line → StepFits (file_state state) line
+    → (lines : List Line) → lines ≡ state.lines.items ++ placed ∷ []
+    → record { trees = map (tree_of ms) state.places.items; statements = statements_of ms lines; claims = claims_of (statements_of ms lines) state.claims.items }
+    ≡ extended (file_state state) (StepItem line)
+state_more state ms same placed line step fits lines are =
+    λ i. record { trees = map (tree_of (same i)) state.places.items; statements = said i; claims = claims i } where
+      says : statement (trees_in state.pool.nodes) placed.says ≡ statement (file_state state).trees line.says
+      says = ap (λ (s : Step). s.says) step
+
+      said : statements_of ms lines ≡ (file_state state).statements ++ statement (file_state state).trees line.says ∷ []
+      said = (λ i. statements_of (same i) (are i)) ∙ said_more state.pool.nodes state.lines.items placed
+          ∙ ap (λ (s : Statement). (file_state state).statements ++ s ∷ []) says
+
+      claims : claims_of (statements_of ms lines) state.claims.items ≡ claims_of (file_state state).statements state.claims.items
+      claims = no_claims (file_state state).statements (statements_of ms lines) state.claims.items fits.claims
+
+pub over_nodes : (state : KernelState) (ms : List Node) → ms ≡ state.pool.nodes → (placed : Line) → IsLineOver state.pool.nodes placed → IsKernelState state
+    → (lines : List Line) → lines ≡ state.lines.items ++ placed ∷ []
+    → (All (λ place. place < length ms) state.places.items) × All (IsLineOver ms) lines
+over_nodes state ms same placed over is lines are = (
+  subst (λ (ns : List Node). All (λ place. place < length ns) state.places.items) (sym same) is.places,
+  subst (λ (ns : List Node). All (IsLineOver ns) lines) (sym same)
+      (subst (λ (ls : List Line). All (IsLineOver state.pool.nodes) ls) (sym are) (All-push (IsLineOver state.pool.nodes) state.lines.items placed is.lines over)),
+)

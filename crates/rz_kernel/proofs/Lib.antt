@@ -1,7 +1,8 @@
 pub mod Decimals
-pub mod Sorts
 pub mod Adding
 pub mod Grammar
-pub mod Following
+pub mod Parts
+pub mod Nodes
+pub mod Judgments
 pub mod Texts
 pub mod Runs

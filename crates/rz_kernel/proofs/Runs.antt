@@ -10,20 +10,20 @@ use Rattle.std.proofs.lemmas.List.{append-nil, length-append, length-map, take-a
 use Rattle.std.proofs.lemmas.List.Splits.{join_with_byte-slice_split}
 use Rattle.rz_rules.specs.declared.nodes.Node.{Node}
 use Rattle.rz_rules.specs.declared.judgments.Judgment.{Judgment}
-use Rattle.rz_rules.specs.declared.judgments.Judgment.TheVariants.{Formed, Holds}
+use Rattle.rz_rules.specs.declared.judgments.Judgment.TheVariants.{Formed, Holds, Has, Same}
 use Rattle.rz_rules.specs.declared.judgments.Line.{Line}
-use Rattle.rz_rules.specs.Form.{form, is_numbered, word_of_kind, word_of_head}
+use Rattle.rz_rules.specs.Form.{form, is_numbered}
 use Rattle.rz_rules.specs.Table.{word_of_row}
 use Rattle.rz_rules.specs.Tree.{tree_over}
-use Rattle.rz_rules.specs.Judgment.{head_of, ids_of, statement}
-use Rattle.rz_rules.specs.File.{Item, NodeItem, StepItem, ClaimItem, Known, nothing_known, words_of, numbers_of, line_of, header, end_line, lines, lines_of, Fits, NodeFits, StepFits, ItemFollows, after, AllFit, AllFollow, known_after, BeginsFile, BeginsDerivations}
+use Rattle.rz_rules.specs.Judgment.{kind_of, ids_of, statement, word_of_judgment_kind}
+use Rattle.rz_rules.specs.File.{Item, NodeItem, StepItem, ClaimItem, FileState, empty_state, words_of, numbers_of, line_of, header, end_line, lines, lines_of, Fits, NodeFits, StepFits, ItemFollows, extended, AllFit, AllFollow, state_after, BeginsFile, BeginsDerivations}
 use Rattle.rz_kernel.specs.declared.answer.KernelAnswer.{KernelAnswer}
 use Rattle.rz_kernel.specs.declared.answer.KernelAnswer.TheVariants.{Yes, Malformed, BadRow}
 use Rattle.rz_kernel.specs.Answer.{IsFirstBad, KernelSays}
-use Rattle.rz_kernel.specs.declared.taking.Taken.TheVariants as takens
-use Rattle.rz_kernel.specs.Lines.{TakenAs}
-use Rattle.rz_kernel.specs.Run.{ReadsTo, IsRead, item_lines}
-use Rattle.rz_kernel.proofs.Grammar.{IsFew, same_kind, same_head, same_row, same_numbers, node_small, line_small}
+use Rattle.rz_kernel.specs.declared.line.LineResult.TheVariants as results
+use Rattle.rz_kernel.specs.Lines.{IsLineResult}
+use Rattle.rz_kernel.specs.Run.{LinesSay, IsRead, item_lines}
+use Rattle.rz_kernel.proofs.Grammar.{IsFew, same_judgment_kind, same_row, same_numbers, node_small, line_small, node_words_tell, tails}
 use Rattle.rz_kernel.proofs.Texts.{words_solid, split_some, same_words, end_solid, header_solid, lines_first, lines_last, lines_line, concat_lines, feedless}
 
 -- ---- the words of an item tell it
@@ -33,39 +33,61 @@ parts_same : (t : Bool) (m n : ℕ) (ks ls : List ℕ) → (t ≡ false → m �
 parts_same true m n ks ls hm hn e = let one : m ≡ n = cc in let rest : ks ≡ ls = cc in (one, rest)
 parts_same false m n ks ls hm hn e = (hm refl ∙ sym (hn refl), e)
 
-node_same : (known : Known) (x y : Node) → IsFew known → NodeFits known x → NodeFits known y → words_of (NodeItem x) ≡ words_of (NodeItem y) → x ≡ y
+node_same : (known : FileState) (x y : Node) → IsFew known → NodeFits known x → NodeFits known y → words_of (NodeItem x) ≡ words_of (NodeItem y) → x ≡ y
 node_same known x y few fx fy e =
-    let words : word_of_kind x.kind ≡ word_of_kind y.kind = cc in
-    let numerals : map decimal (numbers_of x) ≡ map decimal (numbers_of y) = cc in
-    let kinds : x.kind ≡ y.kind = same_kind x.kind y.kind words in
-    let numbers : numbers_of x ≡ numbers_of y = same_numbers (numbers_of x) (numbers_of y) (node_small known x few fx) (node_small known y few fy) numerals in
-    let parts = parts_same (is_numbered (form x.kind).role) x.number y.number x.kids y.kids fx.unnumbered (λ f. fy.unnumbered (ap (λ k. is_numbered (form k).role) (sym kinds) ∙ f))
-    (numbers ∙ ap (λ k. cond (is_numbered (form k).role) (y.number ∷ []) [] ++ y.kids) (sym kinds)) in
-    let names : x.name ≡ y.name = fx.unnamed ∙ sym fy.unnamed in
-    λ i. record { kind = kinds i; number = parts.0 i; name = names i; kids = parts.1 i }
+    let told = node_words_tell x.kind y.kind x.name y.name (numbers_of x) (numbers_of y) fx.form.label.unnamed fy.form.label.unnamed
+    (node_small known x few fx) (node_small known y few fy) (tails (codes "n") (codes "n") _ _ e) in
+    let kinds : x.kind ≡ y.kind = told.0 in
+    let parts = parts_same (is_numbered (form x.kind).role) x.number y.number x.kids y.kids fx.form.label.unnumbered
+    (λ f. fy.form.label.unnumbered (ap (λ k. is_numbered (form k).role) (sym kinds) ∙ f))
+    (told.2 ∙ ap (λ k. cond (is_numbered (form k).role) (y.number ∷ []) [] ++ y.kids) (sym kinds)) in
+    λ i. record { kind = kinds i; number = parts.0 i; name = told.1 i; kids = parts.1 i }
 
-says_same : (a b : Judgment) (xs ys : List ℕ) → head_of a ≡ head_of b → ids_of a ++ xs ≡ ids_of b ++ ys → (a ≡ b) × (xs ≡ ys)
+says_same : (a b : Judgment) (xs ys : List ℕ) → kind_of a ≡ kind_of b → ids_of a ++ xs ≡ ids_of b ++ ys → (a ≡ b) × (xs ≡ ys)
 says_same (Formed c) (Formed d) xs ys h e =
-    let one : c ≡ d = cc in
+    let e0 : c ≡ d = cc in
     let rest : xs ≡ ys = cc in
-    (ap (λ k. Formed k) one, rest)
+    ((λ i. Formed (e0 i)), rest)
 says_same (Formed c) (Holds d psi) xs ys h e = absurd cc
+says_same (Formed c) (Has d b u) xs ys h e = absurd cc
+says_same (Formed c) (Same d b b1 u) xs ys h e = absurd cc
 says_same (Holds c phi) (Formed d) xs ys h e = absurd cc
 says_same (Holds c phi) (Holds d psi) xs ys h e =
-    let one : c ≡ d = cc in
-    let two : phi ≡ psi = cc in
+    let e0 : c ≡ d = cc in
+    let e1 : phi ≡ psi = cc in
     let rest : xs ≡ ys = cc in
-    ((λ i. Holds (one i) (two i)), rest)
+    ((λ i. Holds (e0 i) (e1 i)), rest)
+says_same (Holds c phi) (Has d b u) xs ys h e = absurd cc
+says_same (Holds c phi) (Same d b b1 u) xs ys h e = absurd cc
+says_same (Has c a t) (Formed d) xs ys h e = absurd cc
+says_same (Has c a t) (Holds d psi) xs ys h e = absurd cc
+says_same (Has c a t) (Has d b u) xs ys h e =
+    let e0 : c ≡ d = cc in
+    let e1 : a ≡ b = cc in
+    let e2 : t ≡ u = cc in
+    let rest : xs ≡ ys = cc in
+    ((λ i. Has (e0 i) (e1 i) (e2 i)), rest)
+says_same (Has c a t) (Same d b b1 u) xs ys h e = absurd cc
+says_same (Same c a a1 t) (Formed d) xs ys h e = absurd cc
+says_same (Same c a a1 t) (Holds d psi) xs ys h e = absurd cc
+says_same (Same c a a1 t) (Has d b u) xs ys h e = absurd cc
+says_same (Same c a a1 t) (Same d b b1 u) xs ys h e =
+    let e0 : c ≡ d = cc in
+    let e1 : a ≡ b = cc in
+    let e2 : a1 ≡ b1 = cc in
+    let e3 : t ≡ u = cc in
+    let rest : xs ≡ ys = cc in
+    ((λ i. Same (e0 i) (e1 i) (e2 i) (e3 i)), rest)
 
-line_same : (known : Known) (x y : Line) → IsFew known → StepFits known x → StepFits known y → words_of (StepItem x) ≡ words_of (StepItem y) → x ≡ y
+line_same : (known : FileState) (x y : Line) → IsFew known → StepFits known x → StepFits known y → words_of (StepItem x) ≡ words_of (StepItem y) → x ≡ y
 line_same known x y few fx fy e =
     let rows : word_of_row x.row ≡ word_of_row y.row = cc in
     let counts : decimal x.number ≡ decimal y.number = cc in
-    let heads : word_of_head (head_of x.says) ≡ word_of_head (head_of y.says) = cc in
+    let heads : word_of_judgment_kind (kind_of x.says) ≡ word_of_judgment_kind (kind_of y.says) = cc in
     let numerals : map decimal (ids_of x.says ++ x.from) ≡ map decimal (ids_of y.says ++ y.from) = cc in
     let ids : ids_of x.says ++ x.from ≡ ids_of y.says ++ y.from =
     same_numbers (ids_of x.says ++ x.from) (ids_of y.says ++ y.from) (line_small known x few fx) (line_small known y few fy) numerals in
-    let parts = says_same x.says y.says x.from y.from (same_head (head_of x.says) (head_of y.says) heads) ids in
+    let parts = says_same x.says y.says x.from y.from (same_judgment_kind (kind_of x.says) (kind_of y.says) heads) ids in
     let row : x.row ≡ y.row = same_row x.row y.row rows in
     let number : x.number ≡ y.number = decimal_injective x.number y.number (omega (arith, fx.number)) (omega (arith, fy.number)) counts in
     λ i. record { row = row i; number = number i; says = parts.0 i; from = parts.1 i }
@@ -91,7 +113,7 @@ s_end e = let ne : ◌≡◌ {A = ℕ} 115 101 = cc in absurd (omega arith)
 c_end : codes "c" ≢ codes "end"
 c_end e = let ne : ◌≡◌ {A = ℕ} 99 101 = cc in absurd (omega arith)
 
-item_same : (known : Known) (x y : Item) → IsFew known → Fits known x → Fits known y → words_of x ≡ words_of y → x ≡ y
+item_same : (known : FileState) (x y : Item) → IsFew known → Fits known x → Fits known y → words_of x ≡ words_of y → x ≡ y
 item_same known (NodeItem x) (NodeItem y) few fx fy e = ap (λ n. NodeItem n) (node_same known x y few fx fy e)
 item_same known (StepItem x) (StepItem y) few fx fy e = ap (λ l. StepItem l) (line_same known x y few fx fy e)
 item_same known (ClaimItem m i) (ClaimItem n j) few fx fy e =
@@ -118,11 +140,11 @@ words_end (ClaimItem m i) e = first_differs _ _ _ _ c_end e
 
 -- ---- lines of items
 
-pub same_line : (known : Known) (x y : Item) → IsFew known → Fits known x → Fits known y → line_of (words_of x) ≡ line_of (words_of y) → x ≡ y
+pub same_line : (known : FileState) (x y : Item) → IsFew known → Fits known x → Fits known y → line_of (words_of x) ≡ line_of (words_of y) → x ≡ y
 same_line known x y few fx fy e =
     item_same known x y few fx fy (same_words (words_of x) (words_of y) (words_some x) (words_some y) (words_solid known x few fx) (words_solid known y few fy) e)
 
-pub not_end : (known : Known) (x : Item) → IsFew known → Fits known x → line_of (words_of x) ≢ end_line
+pub not_end : (known : FileState) (x : Item) → IsFew known → Fits known x → line_of (words_of x) ≢ end_line
 not_end known x few fits e = words_end x (same_words (words_of x) (codes "end" ∷ []) (words_some x) (λ n. absurd cc) (words_solid known x few fits) end_solid e)
 
 pub not_nothing : (words : List (List ℕ)) → line_of words ≢ []
@@ -130,14 +152,14 @@ not_nothing words e = let long = length-append (join_with_byte 32 words) (10 ∷
 
 -- ---- what is known after items
 
-pub record IsRoomy (known : Known) (more : ℕ) : Type 0 where
+pub record IsRoomy (known : FileState) (more : ℕ) : Type 0 where
   pub trees : length known.trees + more < 2 ^ 64
   pub statements : length known.statements + more < 2 ^ 64
 
-few_of : (known : Known) (more : ℕ) → IsRoomy known more → IsFew known
+few_of : (known : FileState) (more : ℕ) → IsRoomy known more → IsFew known
 few_of known more roomy = record { trees = omega (arith, roomy.trees); statements = omega (arith, roomy.statements) }
 
-roomy_after : (known : Known) (x : Item) (more : ℕ) → IsRoomy known (suc more) → IsRoomy (after known x) more
+roomy_after : (known : FileState) (x : Item) (more : ℕ) → IsRoomy known (suc more) → IsRoomy (extended known x) more
 roomy_after known (NodeItem x) more roomy = record {
   trees = let long = length-append known.trees (tree_over known.trees x ∷ []) in omega (arith, roomy.trees, long);
   statements = omega (arith, roomy.statements);
@@ -148,28 +170,28 @@ roomy_after known (StepItem x) more roomy = record {
 }
 roomy_after known (ClaimItem m i) more roomy = record { trees = omega (arith, roomy.trees); statements = omega (arith, roomy.statements) }
 
-pub roomy_nothing : (more : ℕ) → more < 2 ^ 64 → IsRoomy nothing_known more
+pub roomy_nothing : (more : ℕ) → more < 2 ^ 64 → IsRoomy empty_state more
 roomy_nothing more lt = record { trees = omega (arith, lt); statements = omega (arith, lt) }
 
-few_after : (known : Known) (p : List Item) → IsRoomy known (length p) → IsFew (known_after known p)
+few_after : (known : FileState) (p : List Item) → IsRoomy known (length p) → IsFew (state_after known p)
 few_after known [] roomy = few_of known 0 roomy
-few_after known (x ∷ p) roomy = few_after (after known x) p (roomy_after known x (length p) roomy)
+few_after known (x ∷ p) roomy = few_after (extended known x) p (roomy_after known x (length p) roomy)
 
-pub fit_more : (known : Known) (p r : List Item) → AllFit known p → AllFit (known_after known p) r → AllFit known (p ++ r)
+pub fit_more : (known : FileState) (p r : List Item) → AllFit known p → AllFit (state_after known p) r → AllFit known (p ++ r)
 fit_more known [] r hp hr = hr
-fit_more known (x ∷ p) r hp hr = (hp.0, fit_more (after known x) p r hp.1 hr)
+fit_more known (x ∷ p) r hp hr = (hp.0, fit_more (extended known x) p r hp.1 hr)
 
-pub follow_more : (known : Known) (p r : List Item) → AllFollow known p → AllFollow (known_after known p) r → AllFollow known (p ++ r)
+pub follow_more : (known : FileState) (p r : List Item) → AllFollow known p → AllFollow (state_after known p) r → AllFollow known (p ++ r)
 follow_more known [] r hp hr = hr
-follow_more known (x ∷ p) r hp hr = (hp.0, follow_more (after known x) p r hp.1 hr)
+follow_more known (x ∷ p) r hp hr = (hp.0, follow_more (extended known x) p r hp.1 hr)
 
-pub known_more : (known : Known) (p r : List Item) → known_after known (p ++ r) ≡ known_after (known_after known p) r
+pub known_more : (known : FileState) (p r : List Item) → state_after known (p ++ r) ≡ state_after (state_after known p) r
 known_more known [] r = refl
-known_more known (x ∷ p) r = known_more (after known x) p r
+known_more known (x ∷ p) r = known_more (extended known x) p r
 
-follow_rest : (known : Known) (p r : List Item) → AllFollow known (p ++ r) → AllFollow (known_after known p) r
+follow_rest : (known : FileState) (p r : List Item) → AllFollow known (p ++ r) → AllFollow (state_after known p) r
 follow_rest known [] r h = h
-follow_rest known (x ∷ p) r h = follow_rest (after known x) p r h.1
+follow_rest known (x ∷ p) r h = follow_rest (extended known x) p r h.1
 
 pub lines_more : (p : List Item) (x : Item) (ls : List (List ℕ)) → item_lines (p ++ x ∷ []) ++ ls ≡ item_lines p ++ line_of (words_of x) ∷ ls
 lines_more [] x ls = refl
@@ -181,13 +203,13 @@ abbrev tail_lines : List Item → List (List ℕ)
 tail_lines items = item_lines items ++ end_line ∷ [] ∷ []
 
 -- the items behind the first
-record GoesOn (known : Known) (p q : List Item) (rest : List (List ℕ)) : Type 0 where
+record GoesOn (known : FileState) (p q : List Item) (rest : List (List ℕ)) : Type 0 where
   pub items : List Item
   pub parts : q ≡ p ++ items
-  pub fit : AllFit (known_after known p) items
+  pub fit : AllFit (state_after known p) items
   pub lines : tail_lines items ≡ rest
 
-follow : (known : Known) (p q : List Item) (rest : List (List ℕ)) → IsRoomy known (length p) → AllFit known p → AllFit known q
+follow : (known : FileState) (p q : List Item) (rest : List (List ℕ)) → IsRoomy known (length p) → AllFit known p → AllFit known q
     → tail_lines q ≡ item_lines p ++ rest → GoesOn known p q rest
 follow known [] q rest roomy fp fq e = record { items = q; parts = refl; fit = fq; lines = e }
 follow known (x ∷ p) [] rest roomy fp fq e =
@@ -197,16 +219,16 @@ follow known (x ∷ p) (y ∷ q) rest roomy fp fq e =
     let first : line_of (words_of y) ≡ line_of (words_of x) = cc in
     let others : tail_lines q ≡ item_lines p ++ rest = cc in
     let same : y ≡ x = same_line known y x (few_of known _ roomy) fq.0 fp.0 first in
-    let fit : AllFit (after known x) q = subst (λ (z : Item). AllFit (after known z) q) same fq.1 in
-    let on = follow (after known x) p q rest (roomy_after known x (length p) roomy) fp.1 fit others in
+    let fit : AllFit (extended known x) q = subst (λ (z : Item). AllFit (extended known z) q) same fq.1 in
+    let on = follow (extended known x) p q rest (roomy_after known x (length p) roomy) fp.1 fit others in
     record { items = on.items; parts = (λ i. same i ∷ on.parts i); fit = on.fit; lines = on.lines }
 
 -- the next line of a file that begins with these items: the end, or another item
 pub data Next (p q : List Item) (line : List ℕ) (rest : List (List ℕ)) : Type 0 where
   Ends : line ≡ end_line → rest ≡ [] ∷ [] → Next p q line rest
-  Goes : (x : Item) (items : List Item) → q ≡ p ++ x ∷ items → Fits (known_after nothing_known p) x → line_of (words_of x) ≡ line → Next p q line rest
+  Goes : (x : Item) (items : List Item) → q ≡ p ++ x ∷ items → Fits (state_after empty_state p) x → line_of (words_of x) ≡ line → Next p q line rest
 
-next_of : (p q items : List Item) (line : List ℕ) (rest : List (List ℕ)) → q ≡ p ++ items → AllFit (known_after nothing_known p) items → tail_lines items ≡ line ∷ rest → Next p q line rest
+next_of : (p q items : List Item) (line : List ℕ) (rest : List (List ℕ)) → q ≡ p ++ items → AllFit (state_after empty_state p) items → tail_lines items ≡ line ∷ rest → Next p q line rest
 next_of p q [] line rest parts fit e =
     let one : line ≡ end_line = cc in
     let others : rest ≡ [] ∷ [] = cc in
@@ -215,19 +237,19 @@ next_of p q (x ∷ items) line rest parts fit e =
     let one : line_of (words_of x) ≡ line = cc in
     Goes x items parts fit.0 one
 
-pub next : (p q : List Item) (line : List ℕ) (rest : List (List ℕ)) → IsRoomy nothing_known (length p) → AllFit nothing_known p → AllFit nothing_known q
+pub next : (p q : List Item) (line : List ℕ) (rest : List (List ℕ)) → IsRoomy empty_state (length p) → AllFit empty_state p → AllFit empty_state q
     → lines_of q ≡ ((header ∷ item_lines p) ++ line ∷ []) ++ rest → Next p q line rest
 next p q line rest roomy fp fq e =
     let behind : tail_lines q ≡ (item_lines p ++ line ∷ []) ++ rest = cc in
-    let on = follow nothing_known p q (line ∷ rest) roomy fp fq (behind ∙ append_assoc (item_lines p) (line ∷ []) rest) in
+    let on = follow empty_state p q (line ∷ rest) roomy fp fq (behind ∙ append_assoc (item_lines p) (line ∷ []) rest) in
     next_of p q on.items line rest on.parts on.fit on.lines
 
 -- ---- beginnings
 
-pub begins : (p : List Item) → AllFit nothing_known p → AllFollow nothing_known p → BeginsDerivations (header ∷ item_lines p)
+pub begins : (p : List Item) → AllFit empty_state p → AllFollow empty_state p → BeginsDerivations (header ∷ item_lines p)
 begins p fit follows = (p, fit, follows, end_line ∷ [] ∷ [], refl)
 
-pub begins_end : (p : List Item) → AllFit nothing_known p → AllFollow nothing_known p → BeginsDerivations ((header ∷ item_lines p) ++ end_line ∷ [])
+pub begins_end : (p : List Item) → AllFit empty_state p → AllFollow empty_state p → BeginsDerivations ((header ∷ item_lines p) ++ end_line ∷ [])
 begins_end p fit follows = (p, fit, follows, [] ∷ [], sym (ap (λ ls. header ∷ ls) (append_assoc (item_lines p) (end_line ∷ []) ([] ∷ []))))
 
 pub begins_nothing : BeginsDerivations []
@@ -237,8 +259,8 @@ begins_file : (front : List (List ℕ)) → BeginsDerivations front → BeginsFi
 begins_file front (items, fit, follows, rest, e) = (items, fit, rest, e)
 
 -- no file begins with these items and then this line, which is no end and no item that fits
-pub no_next : (p : List Item) (line : List ℕ) → IsRoomy nothing_known (length p) → AllFit nothing_known p → line ≢ end_line
-    → ((x : Item) → Fits (known_after nothing_known p) x → line_of (words_of x) ≢ line) → BeginsFile ((header ∷ item_lines p) ++ line ∷ []) → ⊥
+pub no_next : (p : List Item) (line : List ℕ) → IsRoomy empty_state (length p) → AllFit empty_state p → line ≢ end_line
+    → ((x : Item) → Fits (state_after empty_state p) x → line_of (words_of x) ≢ line) → BeginsFile ((header ∷ item_lines p) ++ line ∷ []) → ⊥
 no_next p line roomy fp ne none (q, fq, rest, e) =
     elim (next p q line rest roomy fp fq e) [
       | Ends one others ↦ ne one
@@ -246,35 +268,35 @@ no_next p line roomy fp ne none (q, fq, rest, e) =
     ]
 
 -- no file of derivations begins with these items and then a step that doesn't follow
-pub no_follow : (p : List Item) (x : Item) → IsRoomy nothing_known (length p) → AllFit nothing_known p → Fits (known_after nothing_known p) x → (ItemFollows (known_after nothing_known p) x → ⊥)
+pub no_follow : (p : List Item) (x : Item) → IsRoomy empty_state (length p) → AllFit empty_state p → Fits (state_after empty_state p) x → (ItemFollows (state_after empty_state p) x → ⊥)
     → BeginsDerivations ((header ∷ item_lines p) ++ line_of (words_of x) ∷ []) → ⊥
 no_follow p x roomy fp fits none (q, fq, follows, rest, e) =
-    let few = few_after nothing_known p roomy in
+    let few = few_after empty_state p roomy in
     elim (next p q (line_of (words_of x)) rest roomy fp fq e) [
-      | Ends one others ↦ not_end (known_after nothing_known p) x few fits one
+      | Ends one others ↦ not_end (state_after empty_state p) x few fits one
       | Goes y items parts fits' is ↦
-          let same : y ≡ x = same_line (known_after nothing_known p) y x few fits' fits is in
-          let all = follow_rest nothing_known p (y ∷ items) (subst (λ (z : List Item). AllFollow nothing_known z) parts follows) in
-          none (subst (λ (z : Item). ItemFollows (known_after nothing_known p) z) same all.0)
+          let same : y ≡ x = same_line (state_after empty_state p) y x few fits' fits is in
+          let all = follow_rest empty_state p (y ∷ items) (subst (λ (z : List Item). AllFollow empty_state z) parts follows) in
+          none (subst (λ (z : Item). ItemFollows (state_after empty_state p) z) same all.0)
     ]
 
 -- a file begins with these items and another that fits
-pub begins_more : (p : List Item) (x : Item) → AllFit nothing_known p → Fits (known_after nothing_known p) x → BeginsFile ((header ∷ item_lines p) ++ line_of (words_of x) ∷ [])
+pub begins_more : (p : List Item) (x : Item) → AllFit empty_state p → Fits (state_after empty_state p) x → BeginsFile ((header ∷ item_lines p) ++ line_of (words_of x) ∷ [])
 begins_more p x fp fits = (
   p ++ x ∷ [],
-  fit_more nothing_known p (x ∷ []) fp (fits, tt),
+  fit_more empty_state p (x ∷ []) fp (fits, tt),
   end_line ∷ [] ∷ [],
   ap (λ ls. header ∷ ls) (lines_more p x (end_line ∷ [] ∷ []) ∙ sym (append_assoc (item_lines p) (line_of (words_of x) ∷ []) (end_line ∷ [] ∷ []))),
 )
 
 -- nothing stands behind the end
-pub no_more : (p : List Item) (line : List ℕ) → IsRoomy nothing_known (length p) → AllFit nothing_known p → line ≢ []
+pub no_more : (p : List Item) (line : List ℕ) → IsRoomy empty_state (length p) → AllFit empty_state p → line ≢ []
     → BeginsFile (((header ∷ item_lines p) ++ end_line ∷ []) ++ line ∷ []) → ⊥
 no_more p line roomy fp some (q, fq, rest, e) =
-    let few = few_after nothing_known p roomy in
+    let few = few_after empty_state p roomy in
     elim (next p q end_line (line ∷ rest) roomy fp fq (e ∙ append_assoc ((header ∷ item_lines p) ++ end_line ∷ []) (line ∷ []) rest)) [
       | Ends one others ↦ let empty : line ≡ [] = cc in some empty
-      | Goes x items parts fits is ↦ not_end (known_after nothing_known p) x few fits is
+      | Goes x items parts fits is ↦ not_end (state_after empty_state p) x few fits is
     ]
 
 -- ---- answers
@@ -293,15 +315,15 @@ first_bad front line more good bad = record {
 }
 
 pub malformed : (all front : List (List ℕ)) (line : List ℕ) (more : List (List ℕ)) (number : ℕ) → all ≡ front ++ line ∷ more → number ≡ suc (length front) → BeginsDerivations front
-    → (BeginsFile (front ++ line ∷ []) → ⊥) → ReadsTo all (Malformed number)
+    → (BeginsFile (front ++ line ∷ []) → ⊥) → LinesSay all (Malformed number)
 malformed all front line more number is at good none =
-    subst (λ (n : ℕ). ReadsTo all (Malformed n)) (sym at) (subst (λ (ls : List (List ℕ)). ReadsTo ls (Malformed (suc (length front)))) (sym is)
+    subst (λ (n : ℕ). LinesSay all (Malformed n)) (sym at) (subst (λ (ls : List (List ℕ)). LinesSay ls (Malformed (suc (length front)))) (sym is)
     (first_bad front line more good (λ h. none (begins_file (front ++ line ∷ []) h)), (λ h. none (subst BeginsFile (taken_front front line more) h))))
 
 pub bad_row : (all front : List (List ℕ)) (line : List ℕ) (more : List (List ℕ)) (number : ℕ) → all ≡ front ++ line ∷ more → number ≡ suc (length front) → BeginsDerivations front
-    → BeginsFile (front ++ line ∷ []) → (BeginsDerivations (front ++ line ∷ []) → ⊥) → ReadsTo all (BadRow number)
+    → BeginsFile (front ++ line ∷ []) → (BeginsDerivations (front ++ line ∷ []) → ⊥) → LinesSay all (BadRow number)
 bad_row all front line more number is at good some none =
-    subst (λ (n : ℕ). ReadsTo all (BadRow n)) (sym at) (subst (λ (ls : List (List ℕ)). ReadsTo ls (BadRow (suc (length front)))) (sym is)
+    subst (λ (n : ℕ). LinesSay all (BadRow n)) (sym at) (subst (λ (ls : List (List ℕ)). LinesSay ls (BadRow (suc (length front)))) (sym is)
     (first_bad front line more good none, subst BeginsFile (sym (taken_front front line more)) some))
 
 pub front_long : (p : List Item) → length (header ∷ item_lines p) ≡ suc (length p)
@@ -334,7 +356,7 @@ same_place all m n a b =
     ]
 
 -- no line of a file of derivations is bad
-none_bad : (all : List (List ℕ)) (claims n : ℕ) → ReadsTo all (Yes claims) → IsFirstBad all n → ⊥
+none_bad : (all : List (List ℕ)) (claims n : ℕ) → LinesSay all (Yes claims) → IsFirstBad all n → ⊥
 none_bad all claims n (items, fit, follows, is, counted) bad =
     bad.bad (items, fit, follows, drop (suc bad.place) all, sym is ∙ sym (take-append-drop (suc bad.place) all))
 
@@ -347,30 +369,30 @@ items_long p =
 append_nothing : (p q items : List Item) → q ≡ p ++ items → items ≡ [] → p ≡ q
 append_nothing p q items is nothing = sym (is ∙ (λ i. p ++ nothing i) ∙ append-nil p)
 
-nothing_left : (known : Known) (items : List Item) → IsFew known → AllFit known items → tail_lines items ≡ end_line ∷ [] ∷ [] → items ≡ []
+nothing_left : (known : FileState) (items : List Item) → IsFew known → AllFit known items → tail_lines items ≡ end_line ∷ [] ∷ [] → items ≡ []
 nothing_left known [] few fit e = refl
 nothing_left known (x ∷ items) few fit e =
     let first : line_of (words_of x) ≡ end_line = cc in
     absurd (not_end known x few fit.0 first)
 
-same_items : (p q : List Item) → length p < 2 ^ 64 → AllFit nothing_known p → AllFit nothing_known q → lines_of q ≡ lines_of p → p ≡ q
+same_items : (p q : List Item) → length p < 2 ^ 64 → AllFit empty_state p → AllFit empty_state q → lines_of q ≡ lines_of p → p ≡ q
 same_items p q lt fp fq both =
     let roomy = roomy_nothing (length p) lt in
     let behind : tail_lines q ≡ item_lines p ++ end_line ∷ [] ∷ [] = cc in
-    let on = follow nothing_known p q (end_line ∷ [] ∷ []) roomy fp fq behind in
-    append_nothing p q on.items on.parts (nothing_left (known_after nothing_known p) on.items (few_after nothing_known p roomy) on.fit on.lines)
+    let on = follow empty_state p q (end_line ∷ [] ∷ []) roomy fp fq behind in
+    append_nothing p q on.items on.parts (nothing_left (state_after empty_state p) on.items (few_after empty_state p roomy) on.fit on.lines)
 
 known_claims : List Item → ℕ
-known_claims items = (known_after nothing_known items).claims
+known_claims items = length (state_after empty_state items).claims
 
-same_claims : (all : List (List ℕ)) (m n : ℕ) → length all < 2 ^ 64 → ReadsTo all (Yes m) → ReadsTo all (Yes n) → m ≡ n
+same_claims : (all : List (List ℕ)) (m n : ℕ) → length all < 2 ^ 64 → LinesSay all (Yes m) → LinesSay all (Yes n) → m ≡ n
 unfolding known_claims
 same_claims all m n small (p, fp, gp, is, counted) (q, fq, gq, is', counted') =
     let long = items_long p in
     let same = same_items p q (omega (arith, long, ap length is, small)) fp fq (sym is' ∙ is) in
     counted ∙ ap known_claims same ∙ sym counted'
 
-pub one_answer : (all : List (List ℕ)) (a b : KernelAnswer) → length all < 2 ^ 64 → ReadsTo all a → ReadsTo all b → a ≡ b
+pub one_answer : (all : List (List ℕ)) (a b : KernelAnswer) → length all < 2 ^ 64 → LinesSay all a → LinesSay all b → a ≡ b
 one_answer all (Yes m) (Yes n) small h g = ap (λ k. Yes k) (same_claims all m n small h g)
 one_answer all (Yes m) (Malformed n) small h g = absurd (none_bad all m n h g.0)
 one_answer all (Yes m) (BadRow n) small h g = absurd (none_bad all m n h g.0)
@@ -383,16 +405,16 @@ one_answer all (BadRow m) (Malformed n) small h g = absurd (g.1 (subst (λ (k : 
 
 -- ---- lines and bytes
 
-lines_tail : (known : Known) (p : List Item) → IsRoomy known (length p) → AllFit known p → lines (concat (tail_lines p)) ≡ tail_lines p
+lines_tail : (known : FileState) (p : List Item) → IsRoomy known (length p) → AllFit known p → lines (concat (tail_lines p)) ≡ tail_lines p
 lines_tail known [] roomy fit = refl
 lines_tail known (x ∷ p) roomy fit =
     lines_line (words_of x) (concat (tail_lines p)) (words_solid known x (few_of known _ roomy) fit.0)
-    ∙ ap (λ ls. line_of (words_of x) ∷ ls) (lines_tail (after known x) p (roomy_after known x (length p) roomy) fit.1)
+    ∙ ap (λ ls. line_of (words_of x) ∷ ls) (lines_tail (extended known x) p (roomy_after known x (length p) roomy) fit.1)
 
-lines_concat : (p : List Item) → length p < 2 ^ 64 → AllFit nothing_known p → lines (concat (lines_of p)) ≡ lines_of p
+lines_concat : (p : List Item) → length p < 2 ^ 64 → AllFit empty_state p → lines (concat (lines_of p)) ≡ lines_of p
 lines_concat p lt fit =
     lines_line (codes "rzk-derivation" ∷ codes "1" ∷ []) (concat (tail_lines p)) header_solid
-    ∙ ap (λ ls. header ∷ ls) (lines_tail nothing_known p (roomy_nothing (length p) lt) fit)
+    ∙ ap (λ ls. header ∷ ls) (lines_tail empty_state p (roomy_nothing (length p) lt) fit)
 
 concat_long : (p : List Item) (ls : List (List ℕ)) → length p ≤ length (concat (item_lines p ++ ls))
 concat_long [] ls = omega arith
@@ -413,16 +435,17 @@ lines_few (b ∷ bytes) = let le = few_cond (eqb b 10) (lines_few bytes) in omeg
   few_cond true le = omega arith
   few_cond false le = few_onto (lines bytes) le
 
-to_reads : (bytes : List ℕ) (a : KernelAnswer) → length bytes < 2 ^ 64 → KernelSays bytes a → ReadsTo (lines bytes) a
-to_reads bytes (Yes claims) small (p, fit, follows, is, counted) =
+to_reads : (bytes : List ℕ) (a : KernelAnswer) → length bytes < 2 ^ 64 → KernelSays bytes a → LinesSay (lines bytes) a
+to_reads bytes (Yes n) small (claims, (p, fit, follows, is, told), counted) =
     let a = concat_long p (end_line ∷ [] ∷ []) in
     let b = length-append header (concat (tail_lines p)) in
-    (p, fit, follows, ap lines is ∙ lines_concat p (omega (arith, a, b, ap length is, small)) fit, counted)
+    (p, fit, follows, ap lines is ∙ lines_concat p (omega (arith, a, b, ap length is, small)) fit, counted ∙ ap length told)
 to_reads bytes (Malformed n) small h = h
 to_reads bytes (BadRow n) small h = h
 
-pub from_reads : (bytes : List ℕ) (a : KernelAnswer) → ReadsTo (lines bytes) a → KernelSays bytes a
-from_reads bytes (Yes claims) (p, fit, follows, is, counted) = (p, fit, follows, sym (concat_lines bytes) ∙ ap concat is, counted)
+pub from_reads : (bytes : List ℕ) (a : KernelAnswer) → LinesSay (lines bytes) a → KernelSays bytes a
+from_reads bytes (Yes n) (p, fit, follows, is, counted) =
+    ((state_after empty_state p).claims, (p, fit, follows, sym (concat_lines bytes) ∙ ap concat is, refl), counted)
 from_reads bytes (Malformed n) h = h
 from_reads bytes (BadRow n) h = h
 
@@ -435,7 +458,7 @@ only_answer bytes a b small h g =
 words_line : (line : List ℕ) (words : List (List ℕ)) → words ≡ slice_split (λ b. eqb b 32) line → line_of words ≡ line ++ 10 ∷ []
 words_line line words is = ap line_of is ∙ ap (λ bs. bs ++ 10 ∷ []) (join_with_byte-slice_split 32 line)
 
-line_words_of : (known : Known) (x : Item) (line : List ℕ) → IsFew known → Fits known x → line_of (words_of x) ≡ line ++ 10 ∷ [] → words_of x ≡ slice_split (λ b. eqb b 32) line
+line_words_of : (known : FileState) (x : Item) (line : List ℕ) → IsFew known → Fits known x → line_of (words_of x) ≡ line ++ 10 ∷ [] → words_of x ≡ slice_split (λ b. eqb b 32) line
 line_words_of known x line few fits is =
     sym (split_some (words_of x) (words_some x) (words_solid known x few fits))
     ∙ ap (slice_split (λ b. eqb b 32)) (append_cancel_right (join_with_byte 32 (words_of x)) line (10 ∷ []) is)
@@ -454,12 +477,12 @@ lines_some (b ∷ bytes) some = cond_some (eqb b 10) (lines bytes) where
 
 -- ---- a run that came so far
 
-module _ (bytes rest : List ℕ) (known : Known) (number : ℕ) (read : IsRead bytes rest known number) (small : number < 2 ^ 64) where
-  roomy : IsRoomy nothing_known (length read.items)
+module _ (bytes rest : List ℕ) (known : FileState) (number : ℕ) (read : IsRead bytes rest known number) (small : number < 2 ^ 64) where
+  roomy : IsRoomy empty_state (length read.items)
   roomy = roomy_nothing (length read.items) (omega (arith, read.count))
 
   few : IsFew known
-  few = subst IsFew (sym read.known_is) (few_after nothing_known read.items roomy)
+  few = subst IsFew (sym read.known_is) (few_after empty_state read.items roomy)
 
   abbrev front : List (List ℕ)
   front = header ∷ item_lines read.items
@@ -473,10 +496,10 @@ module _ (bytes rest : List ℕ) (known : Known) (number : ℕ) (read : IsRead b
   good : BeginsDerivations front
   good = begins read.items read.fit read.follow
 
-  fits_now : (x : Item) → Fits (known_after nothing_known read.items) x → Fits known x
-  fits_now x fits = subst (λ (k : Known). Fits k x) (sym read.known_is) fits
+  fits_now : (x : Item) → Fits (state_after empty_state read.items) x → Fits known x
+  fits_now x fits = subst (λ (k : FileState). Fits k x) (sym read.known_is) fits
 
-  pub no_line : All (λ b. b ≢ 10) rest → ReadsTo (header ∷ lines bytes) (Malformed number)
+  pub no_line : All (λ b. b ≢ 10) rest → LinesSay (header ∷ lines bytes) (Malformed number)
   no_line none =
       malformed (header ∷ lines bytes) front rest [] number (all_is rest [] (lines_last rest none)) at good
       (no_next read.items rest roomy read.fit (feedless rest (codes "end") none) (λ x fits e. feedless rest (join_with_byte 32 (words_of x)) none (sym e)))
@@ -485,16 +508,16 @@ module _ (bytes rest : List ℕ) (known : Known) (number : ℕ) (read : IsRead b
     lines_are : lines rest ≡ (line ++ 10 ∷ []) ∷ lines behind
     lines_are = ap lines is ∙ lines_first line behind plain
 
-    pub at_end : line ≡ codes "end" → behind ≡ [] → ReadsTo (header ∷ lines bytes) (Yes known.claims)
+    pub at_end : line ≡ codes "end" → behind ≡ [] → LinesSay (header ∷ lines bytes) (Yes (length known.claims))
     at_end end nothing = (
       read.items,
       read.fit,
       read.follow,
       all_is (line ++ 10 ∷ []) (lines behind) lines_are ∙ (λ i. front ++ (end i ++ 10 ∷ []) ∷ lines (nothing i)),
-      ap (λ (k : Known). k.claims) read.known_is,
+      ap (λ (k : FileState). length k.claims) read.known_is,
     )
 
-    pub behind_end : line ≡ codes "end" → behind ≢ [] → ReadsTo (header ∷ lines bytes) (Malformed (number + 1))
+    pub behind_end : line ≡ codes "end" → behind ≢ [] → LinesSay (header ∷ lines bytes) (Malformed (number + 1))
     behind_end end some =
         let cut = lines_some behind some in
         malformed (header ∷ lines bytes) (front ++ end_line ∷ []) cut.0 cut.1 (number + 1)
@@ -503,27 +526,27 @@ module _ (bytes rest : List ℕ) (known : Known) (number : ℕ) (read : IsRead b
         (begins_end read.items read.fit read.follow)
         (no_more read.items cut.0 roomy read.fit cut.2)
 
-    pub no_item_line : (new : Known) → line ≢ codes "end" → TakenAs takens.Malformed known new (slice_split (λ b. eqb b 32) line) → ReadsTo (header ∷ lines bytes) (Malformed number)
+    pub no_item_line : (new : FileState) → line ≢ codes "end" → IsLineResult known new (slice_split (λ b. eqb b 32) line) results.Malformed → LinesSay (header ∷ lines bytes) (Malformed number)
     no_item_line new ne none =
         malformed (header ∷ lines bytes) front (line ++ 10 ∷ []) (lines behind) number (all_is (line ++ 10 ∷ []) (lines behind) lines_are) at good
         (no_next read.items (line ++ 10 ∷ []) roomy read.fit (λ e. ne (append_cancel_right line (codes "end") (10 ∷ []) e))
         (λ x fits e. none x (fits_now x fits) (line_words_of known x line few (fits_now x fits) e)))
 
-    pub no_step_line : (new : Known) → TakenAs takens.BadRow known new (slice_split (λ b. eqb b 32) line) → ReadsTo (header ∷ lines bytes) (BadRow number)
+    pub no_step_line : (new : FileState) → IsLineResult known new (slice_split (λ b. eqb b 32) line) results.BadRow → LinesSay (header ∷ lines bytes) (BadRow number)
     no_step_line new (x, fits, words, none) =
         bad_row (header ∷ lines bytes) front (line ++ 10 ∷ []) (lines behind) number (all_is (line ++ 10 ∷ []) (lines behind) lines_are) at good
         (subst (λ (l : List ℕ). BeginsFile (front ++ l ∷ [])) (words_line line (words_of x) words) (begins_more read.items x read.fit fits'))
         (subst (λ (l : List ℕ). BeginsDerivations (front ++ l ∷ []) → ⊥) (words_line line (words_of x) words)
-        (no_follow read.items x roomy read.fit fits' (λ h. none (subst (λ (k : Known). ItemFollows k x) (sym read.known_is) h)))) where
-          fits' : Fits (known_after nothing_known read.items) x
-          fits' = subst (λ (k : Known). Fits k x) read.known_is fits
+        (no_follow read.items x roomy read.fit fits' (λ h. none (subst (λ (k : FileState). ItemFollows k x) (sym read.known_is) h)))) where
+          fits' : Fits (state_after empty_state read.items) x
+          fits' = subst (λ (k : FileState). Fits k x) read.known_is fits
 
-    pub next_item : (new : Known) → TakenAs takens.Good known new (slice_split (λ b. eqb b 32) line) → IsRead bytes behind new (number + 1)
+    pub next_item : (new : FileState) → IsLineResult known new (slice_split (λ b. eqb b 32) line) results.Good → IsRead bytes behind new (number + 1)
     next_item new (x, fits, follows, words, grown) = record {
       items = read.items ++ x ∷ [];
-      fit = fit_more nothing_known read.items (x ∷ []) read.fit (subst (λ (k : Known). Fits k x) read.known_is fits, tt);
-      follow = follow_more nothing_known read.items (x ∷ []) read.follow (subst (λ (k : Known). ItemFollows k x) read.known_is follows, tt);
-      known_is = grown ∙ ap (λ k. after k x) read.known_is ∙ sym (known_more nothing_known read.items (x ∷ []));
+      fit = fit_more empty_state read.items (x ∷ []) read.fit (subst (λ (k : FileState). Fits k x) read.known_is fits, tt);
+      follow = follow_more empty_state read.items (x ∷ []) read.follow (subst (λ (k : FileState). ItemFollows k x) read.known_is follows, tt);
+      known_is = grown ∙ ap (λ k. extended k x) read.known_is ∙ sym (known_more empty_state read.items (x ∷ []));
       split = read.split ∙ ap (λ ls. item_lines read.items ++ ls) (lines_are ∙ ap (λ l. l ∷ lines behind) (sym (words_line line (words_of x) words)))
           ∙ sym (lines_more read.items x (lines behind));
       count = let long = length-append read.items (x ∷ []) in omega (arith, long, read.count);
@@ -547,7 +570,7 @@ other_header bytes line behind is plain ne =
     no_header_line bytes (line ++ 10 ∷ []) (lines behind) (ap lines is ∙ lines_first line behind plain) (λ e. ne (append_cancel_right line (codes "rzk-derivation 1") (10 ∷ []) e))
 
 pub read_on : (bytes line behind : List ℕ) (answer : KernelAnswer) → bytes ≡ line ++ 10 ∷ behind → All (λ b. b ≢ 10) line → line ≡ codes "rzk-derivation 1"
-    → ReadsTo (header ∷ lines behind) answer → KernelSays bytes answer
+    → LinesSay (header ∷ lines behind) answer → KernelSays bytes answer
 read_on bytes line behind answer is plain head reads =
     let first : lines bytes ≡ header ∷ lines behind = ap lines is ∙ lines_first line behind plain ∙ ap (λ l. (l ++ 10 ∷ []) ∷ lines behind) head in
-    from_reads bytes answer (subst (λ (ls : List (List ℕ)). ReadsTo ls answer) (sym first) reads)
+    from_reads bytes answer (subst (λ (ls : List (List ℕ)). LinesSay ls answer) (sym first) reads)

@@ -13,14 +13,15 @@ use Rattle.std.proofs.lemmas.List.Splits.{slice_split_none, slice_split_at}
 use Rattle.std.proofs.lemmas.List.Elements.{All-head, All-tail, All-cons, All-nil, All-append, All-weaker}
 use Rattle.rz_rules.specs.declared.kinds.Kind.{Kind}
 use Rattle.rz_rules.specs.declared.kinds.Kind.TheVariants as kinds
-use Rattle.rz_rules.specs.declared.kinds.Head.{Head}
-use Rattle.rz_rules.specs.declared.kinds.Head.TheVariants as heads
+use Rattle.rz_rules.specs.declared.judgments.JudgmentKind.{JudgmentKind}
+use Rattle.rz_rules.specs.declared.judgments.JudgmentKind.TheVariants as judgments
 use Rattle.rz_rules.specs.declared.rows.Row.{Row}
 use Rattle.rz_rules.specs.declared.rows.Row.TheVariants as rows
-use Rattle.rz_rules.specs.Form.{word_of_kind, word_of_head}
+use Rattle.rz_rules.specs.Name.{IsName, is_white}
+use Rattle.rz_rules.specs.Form.{form, is_named, word_of_kind}
 use Rattle.rz_rules.specs.Table.{word_of_row}
-use Rattle.rz_rules.specs.Judgment.{head_of, ids_of}
-use Rattle.rz_rules.specs.File.{Item, NodeItem, StepItem, ClaimItem, Known, words_of, numbers_of, line_of, lines, is_white, Fits}
+use Rattle.rz_rules.specs.Judgment.{kind_of, ids_of, word_of_judgment_kind}
+use Rattle.rz_rules.specs.File.{Item, NodeItem, StepItem, ClaimItem, FileState, words_of, numbers_of, name_words, line_of, lines, Fits}
 use Rattle.rz_kernel.specs.Lines.{AreSmall}
 use Rattle.rz_kernel.proofs.Decimals.{IsNumeralWord-decimal}
 use Rattle.rz_kernel.proofs.Grammar.{IsFew, node_small, line_small}
@@ -70,12 +71,12 @@ kind_solid : (kind : Kind) → IsSolid (word_of_kind kind)
 kind_solid kinds.CubeOne = solid_from (word_of_kind kinds.CubeOne) refl
 kind_solid kind = solid_from (word_of_kind kind) refl
 
-head_solid : (head : Head) → IsSolid (word_of_head head)
-head_solid heads.Formed = solid_from (word_of_head heads.Formed) refl
-head_solid heads.Holds = solid_from (word_of_head heads.Holds) refl
+judgment_solid : (kind : JudgmentKind) → IsSolid (word_of_judgment_kind kind)
+judgment_solid judgments.Formed = solid_from (word_of_judgment_kind judgments.Formed) refl
+judgment_solid kind = solid_from (word_of_judgment_kind kind) refl
 
 row_solid : (row : Row) → IsSolid (word_of_row row)
-row_solid rows.FormNil = solid_from (word_of_row rows.FormNil) refl
+row_solid rows.ContextNil = solid_from (word_of_row rows.ContextNil) refl
 row_solid row = solid_from (word_of_row row) refl
 
 number_solid : (n : ℕ) → n < 2 ^ 64 → IsSolid (decimal n)
@@ -90,19 +91,25 @@ numbers_solid (n ∷ ns) h =
     let P : ℕ → Type 0 = λ n. n < 2 ^ 64 in
     All-cons IsSolid (decimal n) (map decimal ns) (number_solid n (All-head P n ns h)) (numbers_solid ns (All-tail P n ns h))
 
+named_solid : (named : Bool) (name : List ℕ) → (named ≡ true → IsName name) → All IsSolid (cond named (name ∷ []) [])
+named_solid true name is = All-cons IsSolid name [] (is refl).solid (All-nil IsSolid)
+named_solid false name is = All-nil IsSolid
+
 -- the words of an item that fits
-pub words_solid : (known : Known) (item : Item) → IsFew known → Fits known item → All IsSolid (words_of item)
+pub words_solid : (known : FileState) (item : Item) → IsFew known → Fits known item → All IsSolid (words_of item)
 words_solid known (NodeItem node) few fits =
     let numerals = numbers_solid (numbers_of node) (node_small known node few fits) in
-    let kind = All-cons IsSolid (word_of_kind node.kind) (map decimal (numbers_of node)) (kind_solid node.kind) numerals in
-    All-cons IsSolid (codes "n") (word_of_kind node.kind ∷ map decimal (numbers_of node)) (solid_from (codes "n") refl) kind
+    let name = named_solid (is_named (form node.kind).role) node.name fits.form.label.named in
+    let behind = All-append IsSolid (name_words node) (map decimal (numbers_of node)) name numerals in
+    let kind = All-cons IsSolid (word_of_kind node.kind) (name_words node ++ map decimal (numbers_of node)) (kind_solid node.kind) behind in
+    All-cons IsSolid (codes "n") (word_of_kind node.kind ∷ name_words node ++ map decimal (numbers_of node)) (solid_from (codes "n") refl) kind
 words_solid known (StepItem line) few fits =
     let ids : List (List ℕ) = map decimal (ids_of line.says ++ line.from) in
     let numerals = numbers_solid (ids_of line.says ++ line.from) (line_small known line few fits) in
-    let head = All-cons IsSolid (word_of_head (head_of line.says)) ids (head_solid (head_of line.says)) numerals in
-    let number = All-cons IsSolid (decimal line.number) (word_of_head (head_of line.says) ∷ ids) (number_solid line.number (omega (arith, fits.number))) head in
-    let row = All-cons IsSolid (word_of_row line.row) (decimal line.number ∷ word_of_head (head_of line.says) ∷ ids) (row_solid line.row) number in
-    All-cons IsSolid (codes "s") (word_of_row line.row ∷ decimal line.number ∷ word_of_head (head_of line.says) ∷ ids) (solid_from (codes "s") refl) row
+    let head = All-cons IsSolid (word_of_judgment_kind (kind_of line.says)) ids (judgment_solid (kind_of line.says)) numerals in
+    let number = All-cons IsSolid (decimal line.number) (word_of_judgment_kind (kind_of line.says) ∷ ids) (number_solid line.number (omega (arith, fits.number))) head in
+    let row = All-cons IsSolid (word_of_row line.row) (decimal line.number ∷ word_of_judgment_kind (kind_of line.says) ∷ ids) (row_solid line.row) number in
+    All-cons IsSolid (codes "s") (word_of_row line.row ∷ decimal line.number ∷ word_of_judgment_kind (kind_of line.says) ∷ ids) (solid_from (codes "s") refl) row
 words_solid known (ClaimItem name step) few fits =
     let number = All-cons IsSolid (decimal step) [] (number_solid step (omega (arith, fits.there, few.statements))) (All-nil IsSolid) in
     let named = All-cons IsSolid name (decimal step ∷ []) fits.named.solid number in

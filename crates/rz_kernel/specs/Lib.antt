@@ -1,5 +1,5 @@
 pub mod Answer
-pub mod Kept
+pub mod State
 pub mod Numeral
 pub mod Lines
 pub mod Run

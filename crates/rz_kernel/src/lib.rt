@@ -4,14 +4,14 @@
 #![tactic(auto)]
 
 mod answer;
+mod file;
 mod items;
-mod kept;
+mod line;
 mod numbers;
-mod reading;
-mod taking;
+mod state;
 
 pub use answer::KernelAnswer;
-pub use reading::kernel;
+pub use file::kernel;
 
 #[cfg(test)]
 mod row_tests;

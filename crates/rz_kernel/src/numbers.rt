@@ -39,7 +39,8 @@ pub fn number_of(word: &[u8]) -> Option<u64>
 
 /// The numbers that words spell, each one of them.
 pub fn numbers_of(alloc: Global, words: &[&[u8]]) -> Result<Option<Vec<u64>>, OutOfMemory>
-    ensures found { IfOk result (λ answer. IfSome answer (λ ns. map decimal ns.items ≡ map (λ w. w.now) words.now)) }
+    ensures found { IfOk result (λ answer. IfSome answer (λ ns. map decimal ns.items
+        ≡ map (λ w. w.now) words.now)) }
     ensures small { IfOk result (λ answer. IfSome answer (λ ns. All (λ n. n < 2 ^ 64) ns.items)) }
     ensures none { IfOk result (λ answer. IfNone answer
         ((ns : List ℕ) → All (λ n. n < 2 ^ 64) ns → map decimal ns ≢ map (λ w. w.now) words.now)) }

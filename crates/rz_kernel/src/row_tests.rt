@@ -1,516 +1,451 @@
 use super::*;
-use crate::tests::add_lines;
 use std::alloc::Global;
 use std::test::Fail;
 
-/// Nodes for the steps below, counted from 0: cubes up to 64 and 65 leaves, contexts, points, topes that are over the
-/// context 11 and some that are not.
-const NODES: &[&[u8]] = &[
-    b"n c1\n", // 0
-    b"n c2\n", // 1
-    b"n cx 1 1\n", // 2
-    b"n cx 2 2\n", // 3
-    b"n cx 3 3\n", // 4
-    b"n cx 4 4\n", // 5
-    b"n cx 5 5\n", // 6
-    b"n cx 6 6\n", // 7
-    b"n cx 7 0\n", // 8
-    b"n nil\n", // 9
-    b"n xcube 9 1\n", // 10
-    b"n xcube 10 1\n", // 11
-    b"n xcube 9 7\n", // 12
-    b"n xcube 9 8\n", // 13
-    b"n pv 0\n", // 14
-    b"n pv 1\n", // 15
-    b"n pv 2\n", // 16
-    b"n p0\n", // 17
-    b"n p1\n", // 18
-    b"n pstar\n", // 19
-    b"n pp 14 15\n", // 20
-    b"n pl 20\n", // 21
-    b"n pr 20\n", // 22
-    b"n pl 14\n", // 23
-    b"n ttop\n", // 24
-    b"n tbot\n", // 25
-    b"n tle 14 15\n", // 26
-    b"n tle 15 18\n", // 27
-    b"n tle 14 18\n", // 28
-    b"n tle 17 14\n", // 29
-    b"n tle 17 19\n", // 30
-    b"n tle 19 18\n", // 31
-    b"n tle 17 16\n", // 32
-    b"n tle 16 18\n", // 33
-    b"n tle 17 21\n", // 34
-    b"n tle 22 18\n", // 35
-    b"n tle 17 23\n", // 36
-    b"n tle 23 18\n", // 37
-    b"n teq 1 14 15\n", // 38
-    b"n teq 2 20 20\n", // 39
-    b"n teq 2 14 15\n", // 40
-    b"n teq 1 20 20\n", // 41
-    b"n teq 0 19 19\n", // 42
-    b"n tand 26 38\n", // 43
-    b"n tor 26 25\n", // 44
-    b"n tor 26 40\n", // 45
-    b"n xtope 11 24\n", // 46
-    b"n xtope 11 38\n", // 47
-    b"n xtope 11 39\n", // 48
-    b"n xtope 11 40\n", // 49
-    b"n xtope 11 41\n", // 50
-    b"n xtope 11 43\n", // 51
-    b"n xtope 11 44\n", // 52
-    b"n xtope 11 45\n", // 53
-    b"n xtope 11 42\n", // 54
-    b"n xtope 11 36\n", // 55
-    b"n xtope 11 32\n", // 56
-    b"n tle 15 14\n", // 57
-    b"n tor 26 57\n", // 58
-    b"n tle 19 19\n", // 59
-    b"n tor 59 59\n", // 60
-    b"n tor 26 26\n", // 61
-    b"n tle 17 18\n", // 62
-    b"n xtope 10 24\n", // 63
-    b"n xcube 52 1\n", // 64
-    b"n tle 17 14\n", // 65
-    b"n pv 4294967295\n", // 66
-    b"n tle 17 66\n", // 67
-    b"n pv 0\n", // 68
-    b"n tle 68 18\n", // 69
-    b"n c2\n", // 70
-    b"n teq 70 14 15\n", // 71
-    b"n xtope 11 71\n", // 72
-    b"n xcube 10 0\n", // 73
-    b"n xtope 73 24\n", // 74
-    b"n tle 17 15\n", // 75
-    b"n pp 14 19\n", // 76
-    b"n pl 76\n", // 77
-    b"n pr 76\n", // 78
-    b"n tle 17 77\n", // 79
-    b"n tle 17 78\n", // 80
-    b"n cx 1 0\n", // 81
-    b"n teq 81 76 76\n", // 82
-    b"n xtope 11 82\n", // 83
-    b"n cx 0 1\n", // 84
-    b"n teq 84 76 76\n", // 85
-    b"n xtope 11 85\n", // 86
-    b"n tand 40 26\n", // 87
-    b"n xtope 11 87\n", // 88
-    b"n tand 26 40\n", // 89
-    b"n xtope 11 89\n", // 90
-    b"n tor 40 26\n", // 91
-    b"n xtope 11 91\n", // 92
-    b"n teq 1 14 19\n", // 93
-    b"n xtope 11 93\n", // 94
-    b"n teq 1 19 14\n", // 95
-    b"n xtope 11 95\n", // 96
-    b"n pr 14\n", // 97
-    b"n tle 17 97\n", // 98
-    b"n pp 14 14\n", // 99
-    b"n pp 99 99\n", // 100
-    b"n pp 100 100\n", // 101
-    b"n pp 101 101\n", // 102
-    b"n pp 102 102\n", // 103
-    b"n pp 103 103\n", // 104
-    b"n pp 104 104\n", // 105
-    b"n cx 7 7\n", // 106
-    b"n teq 106 105 105\n", // 107
-    b"n xtope 11 107\n", // 108
-    b"n tor 26 27\n", // 109
-    b"n tor 26 29\n", // 110
+/// Nodes for the steps of all cases. The first word of a line is the node's name, which stands for its number below.
+const NODES: &[&str] = &[
+    "nil nil",
+    "one c1",
+    "two c2",
+    "two*two cx two two",
+    // Contexts: of a variable `a` of the interval, and of another one, `b`.
+    "/a xcube nil two",
+    "/ab xcube /a two",
+    "a pv 1",
+    "b pv 0",
+    "start p0",
+    "end p1",
+    "only pstar",
+    "(a,b) pp a b",
+    "a<=b tle a b",
+    "b<=a tle b a",
+    "start<=a tle start a",
+    "a<=end tle a end",
+    "start<=end tle start end",
+    "true ttop",
+    "U U",
+    "Unit unit",
+    "tt star",
+    "v0 v 0",
 ];
 
-/// Steps that every case begins with, counted from 0.
-const FIRST_STEPS: &[&[u8]] = &[
-    b"s ctx-nil 0 formed 9\n",
-    b"s ctx-cube 0 formed 10 0\n",
-    b"s ctx-cube 0 formed 11 1\n",
+/// Steps that all cases begin with, counted from 0.
+const FIRST_STEPS: &[&str] = &[
+    "ctx-nil 0 formed nil",
+    "ctx-cube 0 formed /a 0",
+    "ctx-cube 0 formed /ab 1",
+    "unit 0 has nil Unit U 0",
+    "star 0 has nil tt Unit 0",
 ];
 
-/// What is shown, and a step that is bad behind the first ones.
-const BAD_STEPS: &[(&str, &[u8])] = &[
-    ("ctx-nil of another context", b"s ctx-nil 0 formed 10\n"),
-    ("ctx-nil with a premise", b"s ctx-nil 0 formed 9 0\n"),
-    ("ctx-nil with a number", b"s ctx-nil 1 formed 9\n"),
-    ("ctx-cube of 65 leaves", b"s ctx-cube 0 formed 13 0\n"),
-    ("ctx-cube with a number", b"s ctx-cube 1 formed 10 0\n"),
-    ("ctx-cube without its premise", b"s ctx-cube 0 formed 10\n"),
-    (
-        "ctx-cube with another premise",
-        b"s ctx-cube 0 formed 10 1\n",
-    ),
-    (
-        "ctx-cube with a premise too many",
-        b"s ctx-cube 0 formed 10 0 0\n",
-    ),
-    (
-        "ctx-cube with a judgment that isn't its own",
-        b"s ctx-cube 0 holds 10 24 0\n",
-    ),
-    (
-        "ctx-tope of an equality at another cube",
-        b"s ctx-tope 0 formed 49 2\n",
-    ),
-    (
-        "ctx-tope of an equality at the cube of the parts",
-        b"s ctx-tope 0 formed 50 2\n",
-    ),
-    (
-        "ctx-tope of a bad last disjunct",
-        b"s ctx-tope 0 formed 53 2\n",
-    ),
-    (
-        "ctx-tope of a projection of no pair",
-        b"s ctx-tope 0 formed 55 2\n",
-    ),
-    (
-        "ctx-tope of a variable that isn't there",
-        b"s ctx-tope 0 formed 56 2\n",
-    ),
-    (
-        "ctx-tope over another context",
-        b"s ctx-tope 0 formed 46 1\n",
-    ),
-    ("ctx-tope with a number", b"s ctx-tope 1 formed 46 2\n"),
-    ("ctx-tope without its premise", b"s ctx-tope 0 formed 46\n"),
-    (
-        "ctx-tope with a premise too many",
-        b"s ctx-tope 0 formed 46 2 2\n",
-    ),
-    (
-        "ctx-tope of a bad first conjunct",
-        b"s ctx-tope 0 formed 88 2\n",
-    ),
-    (
-        "ctx-tope of a bad last conjunct",
-        b"s ctx-tope 0 formed 90 2\n",
-    ),
-    (
-        "ctx-tope of a bad first disjunct",
-        b"s ctx-tope 0 formed 92 2\n",
-    ),
-    (
-        "ctx-tope of an equality whose first point is at another cube",
-        b"s ctx-tope 0 formed 96 2\n",
-    ),
-    (
-        "ctx-tope of an equality whose last point is at another cube",
-        b"s ctx-tope 0 formed 94 2\n",
-    ),
-    (
-        "ctx-tope of an equality at the product in the other order",
-        b"s ctx-tope 0 formed 86 2\n",
-    ),
-    ("top of another tope", b"s top 0 holds 11 25 2\n"),
-    ("top over another context", b"s top 0 holds 11 24 1\n"),
-    ("top with a number", b"s top 4294967295 holds 11 24 2\n"),
-    ("top without its premise", b"s top 0 holds 11 24\n"),
-    ("top with a premise too many", b"s top 0 holds 11 24 2 2\n"),
-    ("le-zero at another cube", b"s le-zero 0 holds 11 30 2\n"),
-    (
-        "le-zero of a variable that isn't there",
-        b"s le-zero 0 holds 11 32 2\n",
-    ),
-    (
-        "le-zero of the greatest variable",
-        b"s le-zero 0 holds 11 67 2\n",
-    ),
-    (
-        "le-zero of a projection of no pair",
-        b"s le-zero 0 holds 11 36 2\n",
-    ),
-    ("le-zero of another tope", b"s le-zero 0 holds 11 28 2\n"),
-    ("le-zero with a number", b"s le-zero 1 holds 11 29 2\n"),
-    ("le-zero without its premise", b"s le-zero 0 holds 11 29\n"),
-    (
-        "le-zero with a premise too many",
-        b"s le-zero 0 holds 11 29 2 2\n",
-    ),
-    (
-        "le-zero over another context",
-        b"s le-zero 0 holds 11 29 1\n",
-    ),
-    (
-        "le-zero of the last part of no pair",
-        b"s le-zero 0 holds 11 98 2\n",
-    ),
-    (
-        "le-zero of a part at another cube",
-        b"s le-zero 0 holds 11 80 2\n",
-    ),
-    ("le-one at another cube", b"s le-one 0 holds 11 31 2\n"),
-    (
-        "le-one of a variable that isn't there",
-        b"s le-one 0 holds 11 33 2\n",
-    ),
-    (
-        "le-one of a projection of no pair",
-        b"s le-one 0 holds 11 37 2\n",
-    ),
-    ("le-one over another context", b"s le-one 0 holds 11 28 1\n"),
-    ("le-one with a number", b"s le-one 1 holds 11 28 2\n"),
-    ("le-one without its premise", b"s le-one 0 holds 11 28\n"),
-    (
-        "le-one with a premise too many",
-        b"s le-one 0 holds 11 28 2 2\n",
-    ),
-    ("le-one of another tope", b"s le-one 0 holds 11 29 2\n"),
-    ("le-total at another cube", b"s le-total 0 holds 11 60 2\n"),
-    ("le-total with a number", b"s le-total 1 holds 11 58 2\n"),
-    (
-        "le-total without its premise",
-        b"s le-total 0 holds 11 58\n",
-    ),
-    (
-        "le-total over another context",
-        b"s le-total 0 holds 11 58 1\n",
-    ),
-    (
-        "le-total without the order of its disjuncts",
-        b"s le-total 0 holds 11 61 2\n",
-    ),
-    (
-        "le-total with a premise too many",
-        b"s le-total 0 holds 11 58 2 2\n",
-    ),
-    (
-        "le-total with another last point",
-        b"s le-total 0 holds 11 109 2\n",
-    ),
-    (
-        "le-total with another middle point",
-        b"s le-total 0 holds 11 110 2\n",
-    ),
-];
-
-/// What a case shows, its steps behind the first ones, and whether the last of them is bad. No other one is.
-struct Case {
-    shows: &'static str,
-    steps: &'static [&'static [u8]],
-    is_bad: bool,
-}
+/// What a case shows, its nodes behind the first ones, its steps behind the first ones, and whether all of these follow,
+/// or all but the last.
+type Case = (
+    &'static str,
+    &'static [&'static str],
+    &'static [&'static str],
+    bool,
+);
 
 const CASES: &[Case] = &[
-    Case {
-        shows: "ctx-cube of 64 leaves",
-        steps: &[b"s ctx-cube 0 formed 12 0\n"],
-        is_bad: false,
-    },
-    Case {
-        shows: "ctx-cube behind a tope entry",
-        steps: &[
-            b"s ctx-tope 0 formed 52 2\n",
-            b"s ctx-cube 0 formed 64 3\n",
-            b"s le-zero 0 holds 64 32 4\n",
+    (
+        "a context of a cube of 64 leaves",
+        &[
+            "cube4 cx two*two two*two",
+            "cube8 cx cube4 cube4",
+            "cube16 cx cube8 cube8",
+            "cube32 cx cube16 cube16",
+            "cube64 cx cube32 cube32",
+            "/64 xcube nil cube64",
         ],
-        is_bad: false,
-    },
-    Case {
-        shows: "ctx-tope of each tope",
-        steps: &[
-            b"s ctx-tope 0 formed 46 2\n",
-            b"s ctx-tope 0 formed 47 2\n",
-            b"s ctx-tope 0 formed 48 2\n",
-            b"s ctx-tope 0 formed 51 2\n",
-            b"s ctx-tope 0 formed 52 2\n",
-            b"s ctx-tope 0 formed 54 2\n",
+        &["ctx-cube 0 formed /64 0"],
+        false,
+    ),
+    (
+        "a context of a cube of 65 leaves",
+        &[
+            "cube4 cx two*two two*two",
+            "cube8 cx cube4 cube4",
+            "cube16 cx cube8 cube8",
+            "cube32 cx cube16 cube16",
+            "cube64 cx cube32 cube32",
+            "cube65 cx cube64 one",
+            "/65 xcube nil cube65",
         ],
-        is_bad: false,
-    },
-    Case {
-        shows: "ctx-tope of an equality at each cube",
-        steps: &[
-            b"s ctx-tope 0 formed 83 2\n",
-            b"s ctx-tope 0 formed 108 2\n",
+        &["ctx-cube 0 formed /65 0"],
+        true,
+    ),
+    (
+        "a context of topes over it",
+        &[
+            "pairs teq two*two (a,b) (a,b)",
+            "or tor a<=b b<=a",
+            "and tand pairs or",
+            "/and xtope /ab and",
+            "/and/c xcube /and two",
+            "c pv 2",
+            "start<=c tle start c",
         ],
-        is_bad: false,
-    },
-    Case {
-        shows: "ctx-tope by another node for the same cube",
-        steps: &[b"s ctx-tope 0 formed 72 2\n"],
-        is_bad: false,
-    },
-    Case {
-        shows: "top",
-        steps: &[b"s top 0 holds 11 24 2\n"],
-        is_bad: false,
-    },
-    Case {
-        shows: "le-zero",
-        steps: &[
-            b"s le-zero 0 holds 11 29 2\n",
-            b"s le-zero 0 holds 11 34 2\n",
+        &[
+            "ctx-tope 0 formed /and 2",
+            "ctx-cube 0 formed /and/c 5",
+            "le-zero 0 holds /and/c start<=c 6",
         ],
-        is_bad: false,
-    },
-    Case {
-        shows: "le-zero of each part of a pair",
-        steps: &[
-            b"s le-zero 0 holds 11 34 2\n",
-            b"s le-zero 0 holds 11 79 2\n",
+        false,
+    ),
+    (
+        "a context of an equality at another cube",
+        &["pairs teq two (a,b) (a,b)", "/pairs xtope /ab pairs"],
+        &["ctx-tope 0 formed /pairs 2"],
+        true,
+    ),
+    (
+        "a context of a disjunction whose last part isn't over it",
+        &[
+            "points teq two*two a b",
+            "or tor a<=b points",
+            "/or xtope /ab or",
         ],
-        is_bad: false,
-    },
-    Case {
-        shows: "le-zero of a variable behind other entries",
-        steps: &[
-            b"s ctx-cube 0 formed 73 1\n",
-            b"s ctx-tope 0 formed 74 3\n",
-            b"s le-zero 0 holds 74 75 4\n",
+        &["ctx-tope 0 formed /or 2"],
+        true,
+    ),
+    (
+        "a context of a conjunction whose first part isn't over it",
+        &[
+            "points teq two a only",
+            "and tand points a<=b",
+            "/and xtope /ab and",
         ],
-        is_bad: false,
-    },
-    Case {
-        shows: "le-zero of a variable at another cube",
-        steps: &[
-            b"s ctx-cube 0 formed 73 1\n",
-            b"s ctx-tope 0 formed 74 3\n",
-            b"s le-zero 0 holds 74 29 4\n",
+        &["ctx-tope 0 formed /and 2"],
+        true,
+    ),
+    (
+        "the start is at most each point of the interval",
+        &["first pl (a,b)", "start<=first tle start first"],
+        &[
+            "le-zero 0 holds /ab start<=a 2",
+            "le-zero 0 holds /ab start<=first 2",
         ],
-        is_bad: true,
-    },
-    Case {
-        shows: "le-one",
-        steps: &[b"s le-one 0 holds 11 28 2\n", b"s le-one 0 holds 11 35 2\n"],
-        is_bad: false,
-    },
-    Case {
-        shows: "le-total",
-        steps: &[b"s le-total 0 holds 11 58 2\n"],
-        is_bad: false,
-    },
-    Case {
-        shows: "le-trans",
-        steps: &[
-            b"s le-zero 0 holds 11 29 2\n",
-            b"s le-one 0 holds 11 28 2\n",
-            b"s le-trans 0 holds 11 62 3 4\n",
+        false,
+    ),
+    (
+        "and at most no point of another cube",
+        &["start<=only tle start only"],
+        &["le-zero 0 holds /ab start<=only 2"],
+        true,
+    ),
+    (
+        "and at most no part of what is no pair",
+        &["part pl a", "start<=part tle start part"],
+        &["le-zero 0 holds /ab start<=part 2"],
+        true,
+    ),
+    (
+        "and at most no variable that isn't there",
+        &["c pv 2", "start<=c tle start c"],
+        &["le-zero 0 holds /ab start<=c 2"],
+        true,
+    ),
+    (
+        "and at most no variable of another cube",
+        &["/only xcube /a one", "start<=b tle start b"],
+        &[
+            "ctx-cube 0 formed /only 1",
+            "le-zero 0 holds /only start<=b 5",
         ],
-        is_bad: false,
-    },
-    Case {
-        shows: "le-trans by another node for the same tree",
-        steps: &[
-            b"s le-zero 0 holds 11 65 2\n",
-            b"s le-one 0 holds 11 28 2\n",
-            b"s le-trans 0 holds 11 62 3 4\n",
+        true,
+    ),
+    (
+        "a number that the row doesn't use",
+        &[],
+        &["le-zero 1 holds /ab start<=a 2"],
+        true,
+    ),
+    (
+        "a premise that is missing",
+        &[],
+        &["le-zero 0 holds /ab start<=a"],
+        true,
+    ),
+    (
+        "a premise too many",
+        &[],
+        &["le-zero 0 holds /ab start<=a 2 2"],
+        true,
+    ),
+    (
+        "a premise of another context",
+        &[],
+        &["le-zero 0 holds /ab start<=a 1"],
+        true,
+    ),
+    (
+        "a judgment of another kind",
+        &[],
+        &["ctx-cube 0 holds /ab a<=b 2"],
+        true,
+    ),
+    (
+        "the order is total",
+        &["or tor a<=b b<=a"],
+        &["le-total 0 holds /ab or 2"],
+        false,
+    ),
+    (
+        "one letter stands for one tree",
+        &["or tor a<=b a<=b"],
+        &["le-total 0 holds /ab or 2"],
+        true,
+    ),
+    (
+        "the order is transitive, by two nodes for one point",
+        &["again pv 1", "again<=end tle again end"],
+        &[
+            "le-zero 0 holds /ab start<=a 2",
+            "le-one 0 holds /ab again<=end 2",
+            "le-trans 0 holds /ab start<=end 5 6",
         ],
-        is_bad: false,
-    },
-    Case {
-        shows: "le-trans with premises swapped",
-        steps: &[
-            b"s le-zero 0 holds 11 29 2\n",
-            b"s le-one 0 holds 11 28 2\n",
-            b"s le-trans 0 holds 11 62 4 3\n",
+        false,
+    ),
+    (
+        "premises in the other order",
+        &[],
+        &[
+            "le-zero 0 holds /ab start<=a 2",
+            "le-one 0 holds /ab a<=end 2",
+            "le-trans 0 holds /ab start<=end 6 5",
         ],
-        is_bad: true,
-    },
-    Case {
-        shows: "le-trans by two middle points",
-        steps: &[
-            b"s le-zero 0 holds 11 29 2\n",
-            b"s le-one 0 holds 11 27 2\n",
-            b"s le-trans 0 holds 11 62 3 4\n",
+        true,
+    ),
+    (
+        "premises with two points between",
+        &["b<=end tle b end"],
+        &[
+            "le-zero 0 holds /ab start<=a 2",
+            "le-one 0 holds /ab b<=end 2",
+            "le-trans 0 holds /ab start<=end 5 6",
         ],
-        is_bad: true,
-    },
-    Case {
-        shows: "le-trans with a premise missing",
-        steps: &[
-            b"s le-zero 0 holds 11 29 2\n",
-            b"s le-trans 0 holds 11 29 3\n",
+        true,
+    ),
+    (
+        "constants in each context, and what they stand for",
+        &["point const pt Unit tt", "copy const pt Unit point"],
+        &[
+            "const 0 has nil point Unit 3 4 0",
+            "const 0 has /ab point Unit 3 4 2",
+            "const 0 has nil copy Unit 3 5 0",
+            "q-delta 0 same nil copy point Unit 7",
         ],
-        is_bad: true,
-    },
-    Case {
-        shows: "le-trans with a premise too many",
-        steps: &[
-            b"s le-zero 0 holds 11 29 2\n",
-            b"s le-one 0 holds 11 28 2\n",
-            b"s le-trans 0 holds 11 62 3 4 4\n",
+        false,
+    ),
+    (
+        "a constant that is its own value",
+        &["point const pt Unit tt"],
+        &["const 0 has nil point Unit 3 3 0"],
+        true,
+    ),
+    (
+        "another constant than what it stands for",
+        &["point const pt Unit tt", "other const pt Unit point"],
+        &[
+            "const 0 has nil point Unit 3 4 0",
+            "q-delta 0 same nil point other Unit 5",
         ],
-        is_bad: true,
-    },
-    Case {
-        shows: "le-trans with a premise in another context",
-        steps: &[
-            b"s le-zero 0 holds 11 29 2\n",
-            b"s le-one 0 holds 10 28 1\n",
-            b"s le-trans 0 holds 11 62 3 4\n",
+        true,
+    ),
+    (
+        "a function at an argument",
+        &[
+            "/x xterm nil Unit",
+            "f lam Unit Unit tt",
+            "f(tt) app Unit Unit f tt",
         ],
-        is_bad: true,
-    },
-    Case {
-        shows: "le-trans by two nodes for one middle point",
-        steps: &[
-            b"s le-zero 0 holds 11 29 2\n",
-            b"s le-one 0 holds 11 69 2\n",
-            b"s le-trans 0 holds 11 62 3 4\n",
+        &[
+            "ctx-term 0 formed /x 3",
+            "star 0 has /x tt Unit 5",
+            "q-beta 0 same nil f(tt) tt Unit 6 4",
         ],
-        is_bad: false,
-    },
-    Case {
-        shows: "le-trans with another first point",
-        steps: &[
-            b"s le-zero 0 holds 11 29 2\n",
-            b"s le-one 0 holds 11 28 2\n",
-            b"s le-trans 0 holds 11 28 3 4\n",
+        false,
+    ),
+    (
+        "an argument of another function",
+        &[
+            "/x xterm nil Unit",
+            "f lam Unit Unit tt",
+            "g(tt) app Unit U f tt",
         ],
-        is_bad: true,
-    },
-    Case {
-        shows: "le-trans with another last point",
-        steps: &[
-            b"s le-zero 0 holds 11 29 2\n",
-            b"s le-one 0 holds 11 28 2\n",
-            b"s le-trans 0 holds 11 29 3 4\n",
+        &[
+            "ctx-term 0 formed /x 3",
+            "star 0 has /x tt Unit 5",
+            "q-beta 0 same nil g(tt) tt Unit 6 4",
         ],
-        is_bad: true,
-    },
-    Case {
-        shows: "le-trans with a number",
-        steps: &[
-            b"s le-zero 0 holds 11 29 2\n",
-            b"s le-one 0 holds 11 28 2\n",
-            b"s le-trans 1 holds 11 62 3 4\n",
+        true,
+    ),
+    (
+        "a function, and what it does at a variable",
+        &[
+            "/x xterm nil Unit",
+            "Types pi Unit U",
+            "Unit:x lam Unit U Unit",
+            "Unit:x(x) app Unit U Unit:x v0",
+            "Unit:x: lam Unit U Unit:x(x)",
         ],
-        is_bad: true,
-    },
+        &[
+            "ctx-term 0 formed /x 3",
+            "univ 0 has /x U U 5",
+            "pi 0 has nil Types U 3 6",
+            "unit 0 has /x Unit U 5",
+            "lam 0 has nil Unit:x Types 7 8",
+            "q-eta 0 same nil Unit:x Unit:x: Types 9",
+        ],
+        false,
+    ),
+    (
+        "a function, and what it does at another variable",
+        &[
+            "/x xterm nil Unit",
+            "Types pi Unit U",
+            "Unit:x lam Unit U Unit",
+            "v1 v 1",
+            "Unit:x(y) app Unit U Unit:x v1",
+            "Unit:x: lam Unit U Unit:x(y)",
+        ],
+        &[
+            "ctx-term 0 formed /x 3",
+            "univ 0 has /x U U 5",
+            "pi 0 has nil Types U 3 6",
+            "unit 0 has /x Unit U 5",
+            "lam 0 has nil Unit:x Types 7 8",
+            "q-eta 0 same nil Unit:x Unit:x: Types 9",
+        ],
+        true,
+    ),
+    (
+        "an extension type, and its value at a point",
+        &EXTENSION,
+        &[
+            "ctx-tope 0 formed /a/shape 1",
+            "ctx-tope 0 formed /a/shape/face 5",
+            "unit 0 has /a/shape Unit U 5",
+            "star 0 has /a/shape/face tt Unit 6",
+            "ext 0 has nil shape->Unit U 7 8",
+            "star 0 has /a/shape tt Unit 5",
+            "q-refl 0 same /a/shape/face tt tt Unit 8",
+            "xlam 0 has nil f shape->Unit 9 10 11",
+            "eq-refl 0 holds nil start=start 0",
+            "q-xbeta 0 same nil f(start) tt Unit 12 13",
+        ],
+        false,
+    ),
+    (
+        "and its value at a point that isn't there",
+        &EXTENSION,
+        &[
+            "ctx-tope 0 formed /a/shape 1",
+            "ctx-tope 0 formed /a/shape/face 5",
+            "unit 0 has /a/shape Unit U 5",
+            "star 0 has /a/shape/face tt Unit 6",
+            "ext 0 has nil shape->Unit U 7 8",
+            "star 0 has /a/shape tt Unit 5",
+            "q-refl 0 same /a/shape/face tt tt Unit 8",
+            "xlam 0 has nil f shape->Unit 9 10 11",
+            "eq-refl 0 holds nil start=start 0",
+            "q-xbeta 0 same nil f(a) tt Unit 12 13",
+        ],
+        true,
+    ),
 ];
 
-/// The file with these steps behind the first ones.
-fn file_of(alloc: Global, steps: &[&[u8]]) -> Result<Vec<u8>, Fail> {
-    let mut bytes = Vec::new(alloc);
-    bytes.extend_from_slice(b"rzk-derivation 1\n")?;
-    add_lines(&mut bytes, NODES)?;
-    add_lines(&mut bytes, FIRST_STEPS)?;
-    add_lines(&mut bytes, steps)?;
-    bytes.extend_from_slice(b"end\n")?;
-    Ok(bytes)
+/// Functions on the points `t` with `t = start`, which are `tt` wherever they are: their type, one of them, and its value
+/// at two points.
+const EXTENSION: [&str; 9] = [
+    "t=start teq two b start",
+    "/a/shape xtope /a t=start",
+    "/a/shape/face xtope /a/shape true",
+    "shape->Unit ext two t=start Unit true tt",
+    "f xlam two t=start Unit true tt tt",
+    "f(start) xapp two t=start Unit true tt f start",
+    "f(a) xapp two t=start Unit true tt f a",
+    "start=start teq two start start",
+    "a=start teq two a start",
+];
+
+/// Adds words to a line, where a name stands for the number of its node.
+fn add_words(
+    bytes: &mut Vec<u8>,
+    alloc: Global,
+    names: &[&[u8]],
+    words: &[&[u8]],
+) -> Result<(), Fail> {
+    for word in words {
+        match names.iter().position(|name| name == word) {
+            Some(number) => {
+                let number = format!(in alloc; " {number}")?;
+                bytes.extend_from_slice(number.as_bytes())?;
+            }
+            None => {
+                bytes.push(b' ')?;
+                bytes.extend_from_slice(word)?;
+            }
+        }
+    }
+    bytes.push(b'\n')?;
+    Ok(())
 }
 
-/// The lines of every case before its own steps.
-const FIRST_LINES: u64 = 115;
+/// Adds the lines of nodes, and their names to the names.
+fn add_nodes(
+    bytes: &mut Vec<u8>,
+    alloc: Global,
+    names: &mut Vec<&'static [u8]>,
+    nodes: &'static [&'static str],
+) -> Result<(), Fail> {
+    for node in nodes {
+        let words: Vec<&[u8]> = node.as_bytes().split(|b| *b == b' ').collect(alloc)?;
+        let Some((name, rest)) = words.split_first() else {
+            continue;
+        };
+        bytes.push(b'n')?;
+        add_words(bytes, alloc, names, rest)?;
+        names.push(*name)?;
+    }
+    Ok(())
+}
+
+/// Adds the lines of steps.
+fn add_steps(
+    bytes: &mut Vec<u8>,
+    alloc: Global,
+    names: &[&[u8]],
+    steps: &[&str],
+) -> Result<(), Fail> {
+    for step in steps {
+        let words: Vec<&[u8]> = step.as_bytes().split(|b| *b == b' ').collect(alloc)?;
+        bytes.push(b's')?;
+        add_words(bytes, alloc, names, &words)?;
+    }
+    Ok(())
+}
 
 #[test]
 fn rows_and_their_conditions(rt: HostRuntime) -> Result<(), Fail> {
     let alloc = rt.alloc();
-    assert_eq!(rt; NODES.len() + FIRST_STEPS.len() + 1, FIRST_LINES as usize);
-    for (shows, step) in BAD_STEPS {
-        let bytes = file_of(alloc, &[step])?;
-        let want = KernelAnswer::BadRow(FIRST_LINES + 1);
-        assert_eq!(rt; kernel(alloc, &bytes)?, want, "{}", shows);
-    }
-    for case in CASES {
-        let bytes = file_of(alloc, case.steps)?;
-        let count = case.steps.len() as u64;
-        assert!(rt; count < 10);
-        let want = if case.is_bad {
-            KernelAnswer::BadRow(FIRST_LINES + count)
+    for (shows, nodes, steps, is_bad) in CASES {
+        let mut bytes = Vec::new(alloc);
+        let mut names = Vec::new(alloc);
+        bytes.extend_from_slice(b"rzk-derivation 1\n")?;
+        add_nodes(&mut bytes, alloc, &mut names, NODES)?;
+        add_nodes(&mut bytes, alloc, &mut names, nodes)?;
+        add_steps(&mut bytes, alloc, &names, FIRST_STEPS)?;
+        add_steps(&mut bytes, alloc, &names, steps)?;
+        let lines = 1 + names.len() + FIRST_STEPS.len() + steps.len();
+        bytes.extend_from_slice(b"end\n")?;
+        let want = if *is_bad {
+            KernelAnswer::BadRow(lines as u64)
         } else {
             KernelAnswer::Yes(0)
         };
-        assert_eq!(rt; kernel(alloc, &bytes)?, want, "{}", case.shows);
+        assert_eq!(rt; kernel(alloc, &bytes)?, want, "{}", shows);
     }
     Ok(())
 }

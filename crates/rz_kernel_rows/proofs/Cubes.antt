@@ -5,7 +5,7 @@ use Rattle.std.proofs.lemmas.List.Elements.{All-push}
 use Rattle.rz_rules.specs.declared.kinds.Kind.TheVariants.{Product}
 use Rattle.rz_rules.specs.declared.nodes.Node.{Node}
 use Rattle.rz_rules.specs.Tree.{Tree, At, Nil, And, tree_of}
-use Rattle.rz_rules.specs.Tope.{leaves}
+use Rattle.rz_rules.specs.Cube.{leaves}
 use Rattle.rz_kernel_rows.specs.Scope.{IsProductOf, IsNoProduct, leaves_of, IsStep}
 
 -- a cube has a leaf

@@ -4,10 +4,12 @@ use Rattle.std.specs.Prelude.{slice_get, option_map, ◌↔◌}
 use Rattle.std.proofs.lemmas.List.{map-append, take_more}
 use Rattle.rz_rules.specs.declared.rows.Row.{Row}
 use Rattle.rz_rules.specs.declared.judgments.Judgment.{Judgment}
-use Rattle.rz_rules.specs.Tree.{Tree}
-use Rattle.rz_rules.specs.Judgment.{Statement, statement}
+use Rattle.rz_rules.specs.Tree.{Tree, tree_at}
+use Rattle.rz_rules.specs.Judgment.{IsStatement, Statement, context_of, kind_of, parts_of, statement}
+use Rattle.rz_rules.specs.Row.{IsInstance}
+use Rattle.rz_rules.specs.Table.{rule_of}
 use Rattle.rz_rules.specs.Derivation.{Follows, IsScoped}
-use Rattle.rz_kernel_rows.specs.Matching.{FollowsFrom}
+use Rattle.rz_kernel_rows.specs.Line.{IsInstanceOf}
 use Rattle.rz_kernel_rows.proofs.Lists.{slice_get-map, slice_get_is}
 use Rattle.std.proofs.lemmas.List.Elements.{All-cons, All-nil}
 
@@ -38,38 +40,34 @@ somes_same (x ∷ xs) (y ∷ ys) e =
 spoken : (ts : List Tree) (premises : List Judgment) (says : Judgment) → map (statement ts) (premises ++ says ∷ []) ≡ map (statement ts) premises ++ statement ts says ∷ []
 spoken ts premises says = map-append (statement ts) premises (says ∷ [])
 
--- the step that is said by places follows exactly where the step over trees does
-pub step_iff : (ts : List Tree) (row : Row) (number : ℕ) (says : Judgment) (all premises : List Judgment) (from : List ℕ) (s : Statement) → statement ts says ≡ s
-    → map (λ j. Some j) premises ≡ map (slice_get all) from
-    → FollowsFrom ts row number premises says ↔ Follows (map (statement ts) all) (record { row = row; number = number; says = s; from = from })
-step_iff ts row number says all premises from s is named = (to, back) where
+-- a line follows exactly where its trees are trees and its premises and what it says are an instance of its rule
+pub step_iff : (ts : List Tree) (row : Row) (number : ℕ) (says : Judgment) (all premises : List Judgment) (from : List ℕ)
+    → number ≡ 0 → IsStatement (statement ts says) → map (λ j. Some j) premises ≡ map (slice_get all) from
+    → (IsInstanceOf (rule_of row) (map (statement ts) (premises ++ says ∷ [])) × IsScoped (kind_of says) (tree_at ts (context_of says)) (map (tree_at ts) (parts_of says)))
+    ↔ Follows (map (statement ts) all) (record { row = row; number = number; says = statement ts says; from = from })
+step_iff ts row number says all premises from zero_is trees named = (to, back) where
   chosen : map (slice_get (map (statement ts) all)) from ≡ map (λ x. Some x) (map (statement ts) premises)
   chosen = premises_are (statement ts) all premises from named
 
-  whole : map (statement ts) (premises ++ says ∷ []) ≡ map (statement ts) premises ++ s ∷ []
-  whole = spoken ts premises says ∙ ap (λ (x : Statement). map (statement ts) premises ++ x ∷ []) is
+  whole : map (statement ts) (premises ++ says ∷ []) ≡ map (statement ts) premises ++ statement ts says ∷ []
+  whole = spoken ts premises says
 
-  to : FollowsFrom ts row number premises says → Follows (map (statement ts) all) (record { row = row; number = number; says = s; from = from })
+  to : IsInstanceOf (rule_of row) (map (statement ts) (premises ++ says ∷ [])) × IsScoped (kind_of says) (tree_at ts (context_of says)) (map (tree_at ts) (parts_of says))
+      → Follows (map (statement ts) all) (record { row = row; number = number; says = statement ts says; from = from })
   to h = record {
-    number = h.unused;
+    trees = trees;
+    scoped = h.1;
     premises = map (statement ts) premises;
     from = chosen;
-    letters = h.letters;
-    instance = h.instance ∙ ap (λ (js : List Statement). record { trees = []; statements = js }) whole;
-    conditions = h.conditions;
-    scoped = subst (λ (x : Statement). IsScoped x.head x.parts) is h.scoped;
+    applies = record { unused = zero_is; assignment = h.0.0; instance = subst (IsInstance (rule_of row).text h.0.0) whole h.0.1; conditions = h.0.2 };
   }
 
-  back : Follows (map (statement ts) all) (record { row = row; number = number; says = s; from = from }) → FollowsFrom ts row number premises says
+  back : Follows (map (statement ts) all) (record { row = row; number = number; says = statement ts says; from = from })
+      → IsInstanceOf (rule_of row) (map (statement ts) (premises ++ says ∷ [])) × IsScoped (kind_of says) (tree_at ts (context_of says)) (map (tree_at ts) (parts_of says))
   back h =
       let same : h.premises ≡ map (statement ts) premises = somes_same h.premises (map (statement ts) premises) (sym h.from ∙ chosen) in
-      record {
-        unused = h.number;
-        letters = h.letters;
-        instance = h.instance ∙ ap (λ (ps : List Statement). record { trees = []; statements = ps ++ s ∷ [] }) same ∙ ap (λ (js : List Statement). record { trees = []; statements = js }) (sym whole);
-        conditions = h.conditions;
-        scoped = subst (λ (x : Statement). IsScoped x.head x.parts) (sym is) h.scoped;
-      }
+      let is : h.premises ++ statement ts says ∷ [] ≡ map (statement ts) (premises ++ says ∷ []) = ap (λ (ps : List Statement). ps ++ statement ts says ∷ []) same ∙ sym whole in
+      ((h.applies.assignment, subst (IsInstance (rule_of row).text h.applies.assignment) is h.applies.instance, h.applies.conditions), h.scoped)
 
 -- what is there over trees is there by ids
 some_back : {A B : Type 0} (f : A → B) (o : Option A) (b : B) → option_map f o ≡ Some b → (a : A) × (o ≡ Some a)

@@ -1,162 +1,173 @@
--- A walk that comes to its end tells whether a line is an instance of its row.
-use Rattle.std.proofs.Common.{◌≡◌, ℕ, zero, suc, ◌<◌, ◌≤◌, Bool, true, false, cond, eqb, List, [], ◌∷◌, ◌++◌, length, get_or, map, All, Contains, Result, Ok, Err, eq-eqb, refl, sym, ap, subst, ◌∙◌, arith}
-use Rattle.std.specs.Prelude.{◌↔◌, ◌&&◌, reverse, IfOk}
+-- Instances of a row's text, by what was found.
+use Rattle.std.proofs.Common.{◌≡◌, ℕ, ◌<◌, ◌≤◌, ◌||◌, Bool, true, false, List, [], ◌∷◌, Some, Option, length, get_or, take, drop, map, All, refl, sym, ap, subst, ◌∙◌, arith}
 use Rattle.std.specs.List.{list_all, list_any}
-use Rattle.std.proofs.lemmas.Bool.{eqb-true}
+use Rattle.std.specs.Cmp.{first_so, second_so}
+use Rattle.std.proofs.lemmas.List.Elements.{All-cons, All-head, All-nil, All-tail, All-weaker}
 use Rattle.std.proofs.lemmas.Map.Views.{Contains-from_any}
-use Rattle.std.proofs.lemmas.List.{length-map, length-reverse, nil_from_length, get_or-map}
-use Rattle.std.proofs.lemmas.List.Elements.{All-cons, All-nil, All-weaker}
-use Rattle.rz_rules.specs.declared.memory.OutOfMemory.{OutOfMemory}
-use Rattle.rz_rules.specs.declared.rows.Row.{Row}
-use Rattle.rz_rules.specs.declared.rows.Row.TheVariants.{FormNil}
-use Rattle.rz_rules.specs.declared.rows.Symbol.{Symbol}
-use Rattle.rz_rules.specs.declared.rows.Symbol.TheVariants.{Letter}
-use Rattle.rz_rules.specs.declared.rows.Condition.{Condition}
-use Rattle.rz_rules.specs.declared.rows.Condition.TheVariants.{FewLeaves, Over}
-use Rattle.rz_rules.specs.declared.nodes.Node.{Node}
 use Rattle.rz_rules.specs.declared.judgments.Judgment.{Judgment}
-use Rattle.rz_rules.specs.Tree.{Tree, tree_at, tree_of, trees_in}
-use Rattle.rz_rules.specs.Tope.{leaves, cubes_of, IsOver}
-use Rattle.rz_rules.specs.Judgment.{head_of, ids_of, statement}
-use Rattle.rz_rules.specs.Row.{Spelled}
-use Rattle.rz_rules.specs.Derivation.{IsMet, IsScoped}
-use Rattle.rz_rules.specs.Table.{text_of, conditions_of}
-use Rattle.rz_pool.specs.Pool.{ShareTrees}
-use Rattle.rz_kernel_rows.specs.Matching.{Agrees, Spells, Means, IsConsistent, FollowsFrom, letters_in, letters_met, place_of, letter_tree, letters_of, Names}
+use Rattle.rz_rules.specs.declared.nodes.Node.{Node}
+use Rattle.rz_rules.specs.declared.rows.Row.{Row}
+use Rattle.rz_rules.specs.declared.rows.Row.TheVariants as row
+use Rattle.rz_rules.specs.declared.symbols.Letter.{Letter}
+use Rattle.rz_rules.specs.declared.symbols.Label.{Label}
+use Rattle.rz_rules.specs.declared.symbols.Label.TheVariants.{Plain, Index, RowName}
+use Rattle.rz_rules.specs.declared.symbols.Condition.{Condition}
+use Rattle.rz_rules.specs.declared.symbols.Condition.TheVariants.{FewLeaves, TopeOver, PointOf}
+use Rattle.rz_rules.specs.declared.symbols.Symbol.{Symbol}
+use Rattle.rz_rules.specs.declared.symbols.Symbol.TheVariants as symbol
+use Rattle.rz_rules.specs.declared.kinds.Sort.{Sort}
+use Rattle.rz_rules.specs.Cube.{leaves, binders_of}
+use Rattle.rz_rules.specs.Tope.{IsPointOf, IsTopeOver}
+use Rattle.rz_rules.specs.Tree.{Tree, At, IsTree, AreTrees, HaveForms, sort_of, tree_of, trees_in, trees_of}
+use Rattle.rz_rules.specs.Judgment.{IsStatement, ids_of, kind_of, sorts_of, statement}
+use Rattle.rz_rules.specs.declared.kinds.Kind.{Kind}
+use Rattle.rz_rules.specs.Form.{form}
+use Rattle.rz_rules.specs.Row.{Assignment, HasLetter, Spelling, letters_in, name_of, number_of, spelled, with_symbol}
+use Rattle.rz_rules.specs.Derivation.{IsMet}
+use Rattle.rz_rules.specs.Table.{rule_of}
+use Rattle.rz_rules.specs.Text.{same_letter}
+use Rattle.rz_pool.proofs.WellFormed.{tree_of-is}
+use Rattle.rz_spell.specs.Letters.{IsFound, assignment_of, has_name, is_row_name, name_in, tree_for}
+use Rattle.rz_kernel_rows.specs.Finding.{StandsFor, is_determined}
+use Rattle.rz_kernel_rows.specs.Line.{IsJudgmentOver, letters_of, names_letters}
+use Rattle.rz_kernel_rows.proofs.Found.{one_letter}
 
--- at the end of the text nothing is expected
-pub end_expects : (ts : List Tree) (letters : ℕ → Tree) (expected : List ℕ) (rest : List Judgment) (found : List (ℕ × ℕ)) → Means ts [] letters expected rest found → expected ≡ []
-end_expects ts letters expected rest found h =
-    let none : [] ≡ map (tree_at ts) (reverse expected) = ap (λ (s : Spelled). s.trees) h.1 in
-    nil_from_length expected (sym (length-reverse expected) ∙ sym (length-map (reverse expected) (tree_at ts)) ∙ sym (ap length none))
+-- ---- the table
 
-pub end_rests : (ts : List Tree) (letters : ℕ → Tree) (expected : List ℕ) (rest : List Judgment) (found : List (ℕ × ℕ)) → Means ts [] letters expected rest found → rest ≡ []
-end_rests ts letters expected rest found h =
-    let none : [] ≡ map (statement ts) rest = ap (λ (s : Spelled). s.statements) h.1 in
-    nil_from_length rest (sym (length-map rest (statement ts)) ∙ sym (ap length none))
+-- the letters and the name of each text are met outside of substitutions and shifts
+pub rows_are_determined : (row : Row) → is_determined (rule_of row).text ≡ true
+rows_are_determined row.ContextNil = refl
+rows_are_determined row = refl
 
-pub letters_in-append : (text more : List Symbol) → letters_in (text ++ more) ≡ letters_in text ++ letters_in more
-letters_in-append [] more = refl
-letters_in-append (Letter letter ∷ text) more = ap (λ (letters : List ℕ). letter ∷ letters) (letters_in-append text more)
-letters_in-append (symbol ∷ text) more = letters_in-append text more
+-- conditions speak of letters of their text
+conditions_name_letters : (row : Row) → list_all (names_letters (letters_in (rule_of row).text)) (rule_of row).conditions ≡ true
+conditions_name_letters row.ContextNil = refl
+conditions_name_letters row = refl
 
--- where a letter was met first
-abbrev pub MetFirst : List (ℕ × ℕ) → ℕ → Type 0
-MetFirst found letter = (j : ℕ) × (j < length found) × ((d : ℕ × ℕ) → ((get_or found j d).0 ≡ letter) × (place_of found letter ≡ (get_or found j d).1))
+-- ---- what a text spells depends on its letters and its name
 
--- one more in front
-met_after : (met : ℕ × ℕ) (found : List (ℕ × ℕ)) (letter : ℕ) → MetFirst found letter → MetFirst (met ∷ found) letter
-met_after met found letter rest = chosen (eqb met.0 letter) refl where
-  chosen : (b : Bool) → eqb met.0 letter ≡ b → MetFirst (met ∷ found) letter
-  chosen true e = (0, omega arith, λ d. (eqb-true _ _ e, ap (λ (b : Bool). cond b met.1 (place_of found letter)) e))
-  chosen false e = (suc rest.0, omega (arith, rest.1), λ d. ((rest.2 d).0, ap (λ (b : Bool). cond b met.1 (place_of found letter)) e ∙ (rest.2 d).1))
+abbrev pub SameLetter : Assignment → Assignment → Letter → Type 0
+SameLetter a b letter = a.letters letter.number ≡ b.letters letter.number
 
--- a letter that was met was met first somewhere
-met_first : (found : List (ℕ × ℕ)) (letter i : ℕ) → i < length found → get_or (letters_met found) i letter ≡ letter → MetFirst found letter
-met_first [] letter i lt is = absurd (omega arith)
-met_first (met ∷ found) letter zero lt is = (0, omega arith, λ d. (is, ap (λ (b : Bool). cond b met.1 (place_of found letter)) (eq-eqb met.0 letter is)))
-met_first (met ∷ found) letter (suc i) lt is = met_after met found letter (met_first found letter i (omega arith) is)
+or_left : (a b : Bool) → a ≡ true → (a || b) ≡ true
+or_left true b e = refl
+or_left false b e = absurd cc
 
-pub first_met : (found : List (ℕ × ℕ)) (letter : ℕ) → Contains (letters_met found) letter → MetFirst found letter
-first_met found letter has = met_first found letter has.0 (omega (arith, has.1, length-map found (λ (met : ℕ × ℕ). met.0))) has.2
+or_right : (a b : Bool) → b ≡ true → (a || b) ≡ true
+or_right true b e = refl
+or_right false b e = e
 
--- so its place is among those that were met
-pub place_there : (limit : ℕ) (found : List (ℕ × ℕ)) (letter : ℕ) → All (λ met. met.1 < limit) found → Contains (letters_met found) letter → place_of found letter < limit
-place_there limit found letter low has =
-    let first = first_met found letter has in
-    subst (λ (p : ℕ). p < limit) (sym (first.2 (0, 0)).1) (low first.0 (0, 0) first.1)
+same_name : (label : Label) (n m : List ℕ) → (is_row_name label ≡ true → n ≡ m) → name_of label n ≡ name_of label m
+same_name Plain n m h = refl
+same_name (Index k) n m h = refl
+same_name RowName n m h = h refl
 
--- letters that agree with what was met stand for the trees of those places
-pub letter_is : (ts : List Tree) (letters : ℕ → Tree) (found : List (ℕ × ℕ)) (letter : ℕ) → Agrees ts letters found → Contains (letters_met found) letter
-    → letters letter ≡ tree_at ts (place_of found letter)
-letter_is ts letters found letter agrees has =
-    let first = first_met found letter has in
-    let there = first.2 (0, 0) in
-    sym (ap letters there.0) ∙ agrees first.0 (0, 0) first.1 ∙ sym (ap (tree_at ts) there.1)
+pub spelled-same : (text : List Symbol) (a b : Assignment) → All (SameLetter a b) (letters_in text) → (has_name text ≡ true → a.name ≡ b.name) → spelled text a ≡ spelled text b
+spelled-same [] a b letters name = refl
+spelled-same (symbol.Letter letter ∷ text) a b letters name =
+    let here = All-head (SameLetter a b) letter (letters_in text) letters in
+    let behind = spelled-same text a b (All-tail (SameLetter a b) letter (letters_in text) letters) name in
+    λ i. record { trees = here i ∷ (behind i).trees; statements = (behind i).statements }
+spelled-same (symbol.Node kind label ∷ text) a b letters name =
+    let behind = spelled-same text a b letters (λ has. name (or_right (is_row_name label) (has_name text) has)) in
+    let named = same_name label a.name b.name (λ is. name (or_left (is_row_name label) (has_name text) is)) in
+    λ i. node kind label (named i) (behind i) where
+      node : (kind : Kind) → Label → List ℕ → Spelling → Spelling
+      node kind label name behind =
+          let kids = length (form kind).kids in
+          record { trees = At kind (number_of label) name (trees_of (take kids behind.trees)) ∷ drop kids behind.trees; statements = behind.statements }
+spelled-same (symbol.Put space ∷ text) a b letters name = ap (with_symbol (symbol.Put space) a) (spelled-same text a b letters name)
+spelled-same (symbol.Shift space from ∷ text) a b letters name = ap (with_symbol (symbol.Shift space from) a) (spelled-same text a b letters name)
+spelled-same (symbol.Says kind ∷ text) a b letters name = ap (with_symbol (symbol.Says kind) a) (spelled-same text a b letters name)
 
--- letters that were each met at one place alone stand for its tree
-agrees : (ts : List Tree) (found : List (ℕ × ℕ)) → IsConsistent found → Agrees ts (λ letter. tree_at ts (place_of found letter)) found
-agrees ts found consistent i d lt =
-    let letter = (get_or found i d).0 in
-    let has : Contains (letters_met found) letter = (i, omega (arith, lt, length-map found (λ (met : ℕ × ℕ). met.0)), get_or-map (λ (met : ℕ × ℕ). met.0) found i d letter lt) in
-    let first = first_met found letter has in
-    ap (tree_at ts) ((first.2 d).1 ∙ consistent first.0 i d first.1 lt (first.2 d).0)
+-- ---- what was found is what each instance has
 
--- where no two places have one tree, letters that agree were each met at one place alone
-pub consistent_by : (ns : List Node) (letters : ℕ → Tree) (found : List (ℕ × ℕ)) → ShareTrees ns → All (λ met. met.1 < length ns) found → Agrees (trees_in ns) letters found → IsConsistent found
-consistent_by ns letters found shared low agree i j d li lj same =
-    shared (get_or found i d).1 (get_or found j d).1 (low i d li) (low j d lj) (sym (agree i d li) ∙ ap letters same ∙ agree j d lj)
+module _ (nodes : List Node) (text : List Symbol) (letters : List (Option ℕ)) (name : Option ℕ) (found : All (IsFound nodes letters) (letters_in text))
+    (named : has_name text ≡ true → (id : ℕ) × (name ≡ Some id)) (a : Assignment) (stands : StandsFor nodes letters name a) where
+  found_letter : (letter : Letter) → IsFound nodes letters letter → SameLetter a (assignment_of nodes letters name) letter
+  found_letter letter h = stands.trees letter.number h.id h.there ∙ sym (ap (tree_for nodes) h.there)
 
--- a condition speaks of its letters alone
-condition_same : (f g : ℕ → Tree) (condition : Condition) → All (λ letter. f letter ≡ g letter) (letters_of condition) → IsMet f condition → IsMet g condition
-condition_same f g (FewLeaves cube) same met = subst (λ (t : Tree). leaves t ≤ 64) (same 0 0 (omega arith)) met
-condition_same f g (Over context tope) same met =
-    subst (λ (t : Tree). IsOver (cubes_of (g context)) t) (same 1 0 (omega arith)) (subst (λ (c : Tree). IsOver (cubes_of c) (f tope)) (same 0 0 (omega arith)) met)
+  pub found_letters : All (SameLetter a (assignment_of nodes letters name)) (letters_in text)
+  found_letters = All-weaker (IsFound nodes letters) (SameLetter a (assignment_of nodes letters name)) found_letter (letters_in text) found
 
-conditions_same : (f g : ℕ → Tree) (conditions : List Condition) → All (λ condition. All (λ letter. f letter ≡ g letter) (letters_of condition)) conditions → All (IsMet f) conditions → All (IsMet g) conditions
-conditions_same f g conditions same met k d lt = condition_same f g (get_or conditions k d) (same k d lt) (met k d lt)
+  found_name : has_name text ≡ true → a.name ≡ (assignment_of nodes letters name).name
+  found_name has = let is = named has in stands.named is.0 is.1 ∙ sym (ap (λ (n : Option ℕ). name_in (tree_for nodes n)) is.1)
 
--- whether each letter of a condition is among these, computed
-abbrev has_letters : List ℕ → Condition → Bool
-has_letters letters condition = list_all (λ letter. list_any (eqb letter) letters) (letters_of condition)
+  pub same_spelling : spelled text a ≡ spelled text (assignment_of nodes letters name)
+  same_spelling = spelled-same text a (assignment_of nodes letters name) found_letters found_name
 
-both_true : (a b : Bool) → (a && b) ≡ true → (a ≡ true) × (b ≡ true)
-both_true true b e = (refl, e)
-both_true false b e = cc
+-- the letters that were found stand for trees of their sorts
+pub letters_have_sorts : (nodes : List Node) → HaveForms nodes → (letters : List (Option ℕ)) (name : Option ℕ) (text : List Letter) → All (IsFound nodes letters) text
+    → All (HasLetter (assignment_of nodes letters name)) text
+letters_have_sorts nodes forms letters name text found =
+    All-weaker (IsFound nodes letters) (HasLetter (assignment_of nodes letters name)) each text found where
+      each : (letter : Letter) → IsFound nodes letters letter → HasLetter (assignment_of nodes letters name) letter
+      each letter h =
+          subst (IsTree letter.sort) (sym (ap (tree_for nodes) h.there))
+          (subst (λ (s : Sort). IsTree s (tree_of nodes h.id)) h.sort (tree_of-is nodes forms h.id h.live))
 
-all_true : {X : Type 0} (test : X → Bool) (Is : X → Type 0) → ((x : X) → test x ≡ true → Is x) → (xs : List X) → list_all test xs ≡ true → All Is xs
-all_true test Is by [] e = All-nil Is
-all_true test Is by (x ∷ xs) e =
-    let parts = both_true (test x) (list_all test xs) e in
-    All-cons Is x xs (by x parts.0) (all_true test Is by xs parts.1)
+-- ---- conditions
 
--- in each row they stand in its text
-row_has_letters : (row : Row) → list_all (has_letters (letters_in (text_of row))) (conditions_of row) ≡ true
-row_has_letters FormNil = refl
-row_has_letters row = refl
+condition_same : (a b : Assignment) (condition : Condition) → All (SameLetter a b) (letters_of condition) → IsMet a condition → IsMet b condition
+condition_same a b (FewLeaves cube) h met = subst (λ (t : Tree). leaves t ≤ 64) (h 0 cube (omega arith)) met
+condition_same a b (TopeOver context tope) h met =
+    let one = h 0 context (omega arith) in
+    let two = h 1 context (omega arith) in
+    subst (λ (t : Tree). IsTopeOver (binders_of (b.letters context.number)) t) two (subst (λ (t : Tree). IsTopeOver (binders_of t) (a.letters tope.number)) one met)
+condition_same a b (PointOf context cube point) h met =
+    let one = h 0 context (omega arith) in
+    let two = h 1 context (omega arith) in
+    let three = h 2 context (omega arith) in
+    subst (λ (t : Tree). IsPointOf (binders_of (b.letters context.number)) (b.letters cube.number) t) three
+    (subst (λ (t : Tree). IsPointOf (binders_of (b.letters context.number)) t (a.letters point.number)) two
+    (subst (λ (t : Tree). IsPointOf (binders_of t) (a.letters cube.number) (a.letters point.number)) one met))
 
-named : (letters : List ℕ) (condition : Condition) → has_letters letters condition ≡ true → Names letters condition
-named letters condition =
-    all_true (λ letter. list_any (eqb letter) letters) (Contains letters) (λ letter has. Contains-from_any eqb-true letter letters has) (letters_of condition)
+-- what holds of the letters of a text holds of those of its conditions
+module _ (P : Letter → Type 0) (letters : List Letter) (all : All P letters) where
+  among : (letter : Letter) → list_any (same_letter letter) letters ≡ true → P letter
+  among letter e =
+      let c = Contains-from_any {eq = same_letter} one_letter letter letters e in
+      subst P c.2 (all c.0 letter c.1)
 
-row_names : (row : Row) → All (Names (letters_in (text_of row))) (conditions_of row)
-row_names row =
-    let letters = letters_in (text_of row) in
-    all_true (has_letters letters) (Names letters) (named letters) (conditions_of row) (row_has_letters row)
+  each_among : (some : List Letter) → list_all (λ letter. list_any (same_letter letter) letters) some ≡ true → All P some
+  each_among [] e = All-nil P
+  each_among (letter ∷ some) e =
+      All-cons P letter some (among letter (first_so (list_any (same_letter letter) letters) _ e)) (each_among some (second_so (list_any (same_letter letter) letters) _ e))
 
--- each letter of the conditions was met
-pub names_met : (ns : List Node) (row : Row) (found : List (ℕ × ℕ)) → letters_met found ≡ letters_in (text_of row) → All (Names (letters_met found)) (conditions_of row)
-names_met ns row found names = subst (λ (letters : List ℕ). All (Names letters) (conditions_of row)) (sym names) (row_names row)
+  pub of_conditions : (conditions : List Condition) → list_all (names_letters letters) conditions ≡ true → All (λ condition. All P (letters_of condition)) conditions
+  of_conditions [] e = All-nil (λ condition. All P (letters_of condition))
+  of_conditions (condition ∷ conditions) e =
+      All-cons (λ condition. All P (letters_of condition)) condition conditions (each_among (letters_of condition) (first_so (names_letters letters condition) _ e))
+      (of_conditions conditions (second_so (names_letters letters condition) _ e))
 
-module _ (ns : List Node) (row : Row) (number : ℕ) (premises : List Judgment) (says : Judgment) (found : List (ℕ × ℕ))
-    (means : (letters : ℕ → Tree) → Agrees (trees_in ns) letters found ↔ Spells (trees_in ns) (text_of row) letters [] (premises ++ says ∷ [])) where
-  -- where letters were met at two places the line doesn't follow
-  pub not_consistent : ShareTrees ns → All (λ met. met.1 < length ns) found → (IsConsistent found → ⊥) → FollowsFrom (trees_in ns) row number premises says → ⊥
-  not_consistent shared low not follows = not (consistent_by ns follows.letters found shared low ((means follows.letters).1 follows.instance))
+pub of_row : (P : Letter → Type 0) (row : Row) → All P (letters_in (rule_of row).text) → All (λ condition. All P (letters_of condition)) (rule_of row).conditions
+of_row P row all = of_conditions P (letters_in (rule_of row).text) all (rule_of row).conditions (conditions_name_letters row)
 
-  -- nor where a condition isn't met
-  pub not_met : letters_met found ≡ letters_in (text_of row) → (All (IsMet (letter_tree ns found)) (conditions_of row) → ⊥) → FollowsFrom (trees_in ns) row number premises says → ⊥
-  not_met names not follows =
-      let agree = (means follows.letters).1 follows.instance in
-      not (conditions_same follows.letters (letter_tree ns found) (conditions_of row)
-      (All-weaker (Names (letters_met found)) (λ condition. All (λ letter. follows.letters letter ≡ letter_tree ns found letter) (letters_of condition))
-      (λ condition has. All-weaker (Contains (letters_met found)) (λ letter. follows.letters letter ≡ letter_tree ns found letter)
-      (λ letter. letter_is (trees_in ns) follows.letters found letter agree) (letters_of condition) has)
-      (conditions_of row) (names_met ns row found names))
-      follows.conditions)
+pub conditions_same : (a b : Assignment) (conditions : List Condition) → All (λ condition. All (SameLetter a b) (letters_of condition)) conditions → All (IsMet a) conditions → All (IsMet b) conditions
+conditions_same a b conditions same met k d l = condition_same a b (get_or conditions k d) (same k d l) (met k d l)
 
-  -- else the last test decides
-  pub follows_iff : number ≡ 0 → IsConsistent found → All (IsMet (letter_tree ns found)) (conditions_of row)
-      → (r : Result Bool OutOfMemory) → IfOk r (λ yes. (yes ≡ true) ↔ IsScoped (head_of says) (map (tree_of ns) (ids_of says)))
-      → IfOk r (λ yes. (yes ≡ true) ↔ FollowsFrom (trees_in ns) row number premises says)
-  follows_iff zeroed consistent met (Ok said) scoped = (
-    λ t. record {
-      unused = zeroed;
-      letters = letter_tree ns found;
-      instance = (means (letter_tree ns found)).0 (agrees (trees_in ns) found consistent);
-      conditions = met;
-      scoped = scoped.0 t;
-    },
-    λ follows. scoped.1 follows.scoped,
-  )
-  follows_iff zeroed consistent met (Err e) scoped = tt
+-- ---- judgments over nodes
+
+-- what a judgment says is about trees
+parts_are : (nodes : List Node) → HaveForms nodes → (sorts : List Sort) (ids : List ℕ) → All (λ id. id < length nodes) ids → map sort_of (map (tree_of nodes) ids) ≡ sorts
+    → AreTrees sorts (trees_of (map (tree_of nodes) ids))
+parts_are nodes forms [] [] low e = tt
+parts_are nodes forms [] (id ∷ ids) low e = absurd cc
+parts_are nodes forms (sort ∷ sorts) [] low e = absurd cc
+parts_are nodes forms (sort ∷ sorts) (id ∷ ids) low e =
+    let here : sort_of (tree_of nodes id) ≡ sort = cc in
+    let others : map sort_of (map (tree_of nodes) ids) ≡ sorts = cc in (
+      subst (λ (s : Sort). IsTree s (tree_of nodes id)) here (tree_of-is nodes forms id (All-head (λ id. id < length nodes) id ids low)),
+      parts_are nodes forms sorts ids (All-tail (λ id. id < length nodes) id ids low) others,
+    )
+
+pub IsStatement-over : (nodes : List Node) → HaveForms nodes → (says : Judgment) → IsJudgmentOver nodes says → IsStatement (statement (trees_in nodes) says)
+IsStatement-over nodes forms says h =
+    let all = parts_are nodes forms (sorts_of (kind_of says)) (ids_of says) h.live h.sorts in
+    record { context = all.0; parts = all.1 }
+
+pub AreStatements-over : (nodes : List Node) → HaveForms nodes → (said : List Judgment) → All (IsJudgmentOver nodes) said → All IsStatement (map (statement (trees_in nodes)) said)
+AreStatements-over nodes forms [] h = All-nil IsStatement
+AreStatements-over nodes forms (says ∷ said) h =
+    All-cons IsStatement (statement (trees_in nodes) says) (map (statement (trees_in nodes)) said)
+    (IsStatement-over nodes forms says (All-head (IsJudgmentOver nodes) says said h)) (AreStatements-over nodes forms said (All-tail (IsJudgmentOver nodes) says said h))

@@ -1,8 +1,15 @@
-pub mod Lists
-pub mod Nodes
 pub mod Walks
+pub mod Tests
+pub mod Steps
+pub mod KnownSteps
+pub mod Found
 pub mod Instances
 pub mod Following
+pub mod Spelled
 pub mod Cubes
 pub mod Scopes
 pub mod Telling
+pub mod Nodes
+pub mod Lists
+pub mod MetConditions
+pub mod EqualJudgments

@@ -5,15 +5,15 @@ use Rattle.rz_rules.specs.declared.kinds.Kind.{Kind}
 use Rattle.rz_rules.specs.declared.nodes.Node.{Node}
 use Rattle.rz_rules.specs.Form.{form}
 use Rattle.rz_rules.specs.Tree.{Tree, At, trees_of, sort_of, tree_of, tree_over, trees_in}
-use Rattle.rz_pool.specs.Pool.{HasForm}
+use Rattle.rz_rules.specs.Tree.{HasForm}
 
 -- a node has as many kids as its kind has places
-pub kid_count : (ns : List Node) (bound : ℕ) (n : Node) → HasForm ns bound n → length n.kids ≡ length (form n.kind).kids
+pub kid_count : (ns : List Node) (bound : ℕ) (n : Node) → HasForm (trees_in ns) bound n → length n.kids ≡ length (form n.kind).kids
 kid_count ns bound n fine =
     sym (length-map n.kids (tree_of ns)) ∙ sym (length-map (map (tree_of ns) n.kids) sort_of) ∙ ap length fine.sorts ∙ length-map (form n.kind).kids (λ slot. slot.sort)
 
 -- the same, where the kind is known
-pub kids_as : (ns : List Node) (bound : ℕ) (n : Node) (kind : Kind) → HasForm ns bound n → n.kind ≡ kind → length n.kids ≡ length (form kind).kids
+pub kids_as : (ns : List Node) (bound : ℕ) (n : Node) (kind : Kind) → HasForm (trees_in ns) bound n → n.kind ≡ kind → length n.kids ≡ length (form kind).kids
 kids_as ns bound n kind fine is = kid_count ns bound n fine ∙ ap (λ (k : Kind). length (form k).kids) is
 
 -- a node with these parts

@@ -1,5 +1,5 @@
 -- What is told of the ids of a list, from its last to its first.
-use Rattle.std.proofs.Common.{◌≡◌, ℕ, ◌<◌, Bool, true, false, cond, ◌&&◌, List, [], ◌∷◌, ◌++◌, ◌⊎◌, inl, inr, length, get_or, map, nat_eq, All, Contains, Option, Some, None, HashMap, HashSet, BuildHasherDefault, FoldHasher, refl, sym, ap, subst, ◌∙◌, true≢false, arith}
+use Rattle.std.proofs.Common.{◌≡◌, ℕ, ◌<◌, Bool, true, false, cond, ◌&&◌, List, [], ◌∷◌, ◌++◌, ◌⊎◌, inl, inr, length, get_or, nat_eq, All, Contains, Option, Some, None, HashMap, HashSet, BuildHasherDefault, FoldHasher, refl, sym, ap, subst, ◌∙◌, true≢false, arith}
 use Rattle.std.specs.Prelude.{slice_get, option_map, is_some, ◌↔◌}
 use Rattle.std.specs.HashMap.{get}
 use Rattle.std.specs.HashSet.{contains}
@@ -9,10 +9,10 @@ use Rattle.std.proofs.lemmas.List.{length_push, get_or_append_left, get_or_push}
 use Rattle.std.proofs.lemmas.List.Elements.{Contains-push_cases}
 use Rattle.rz_rules.specs.declared.nodes.Node.{Node}
 use Rattle.rz_rules.specs.Tree.{Tree, tree_of}
-use Rattle.rz_rules.specs.Tope.{cube_of, IsOver}
+use Rattle.rz_rules.specs.Tope.{cube_of, IsTopeOver}
 use Rattle.rz_pool.specs.Copy.{AreSettled, ListsParts}
-use Rattle.rz_kernel_rows.specs.declared.scope.Scope.{Scope}
-use Rattle.rz_kernel_rows.specs.Scope.{IsCubeTold, Tells, IsScope}
+use Rattle.rz_kernel_rows.specs.declared.points.Scope.{Scope}
+use Rattle.rz_kernel_rows.specs.Scope.{binders_at, IsCubeTold, Tells, IsScope}
 
 -- some ids are still to be told of, each after its kids
 pub record IsTelling (nodes : List Node) (id : ℕ) (Told : ℕ → Type 0) (ids : List ℕ) : Type 0 where
@@ -94,8 +94,8 @@ pub record IsNoted (nodes : List Node) (id : ℕ) (before after : Scope) : Type 
 
 module _ (nodes : List Node) (scope : Scope) (cubes : HashMap ℕ ℕ (BuildHasherDefault FoldHasher)) (over : HashSet ℕ (BuildHasherDefault FoldHasher)) (id : ℕ)
     (known : IsScope nodes scope) (live : id < length nodes)
-    (cube : Option ℕ) (point : IsCubeTold nodes (cube_of (map (tree_of nodes) scope.entries.items) (tree_of nodes id)) cube)
-    (is_over : Bool) (tope : (is_over ≡ true) ↔ IsOver (map (tree_of nodes) scope.entries.items) (tree_of nodes id))
+    (cube : Option ℕ) (point : IsCubeTold nodes (cube_of (binders_at nodes scope.entries.items) (tree_of nodes id)) cube)
+    (is_over : Bool) (tope : (is_over ≡ true) ↔ IsTopeOver (binders_at nodes scope.entries.items) (tree_of nodes id))
     (noted_cube : (q : ℕ) → get nat_eq cubes q ≡ cond (nat_eq id q && is_some cube) cube (get nat_eq scope.cubes q))
     (noted_over : (q : ℕ) → contains nat_eq over q ≡ cond (nat_eq id q && is_over) true (contains nat_eq scope.over q)) where
   abbrev after : Scope
@@ -119,9 +119,9 @@ module _ (nodes : List Node) (scope : Scope) (cubes : HashMap ℕ ℕ (BuildHash
   here : Tells nodes after id
   here = record {
     live = live;
-    point = subst (IsCubeTold nodes (cube_of (map (tree_of nodes) scope.entries.items) (tree_of nodes id)))
+    point = subst (IsCubeTold nodes (cube_of (binders_at nodes scope.entries.items) (tree_of nodes id)))
         (sym (noted_cube id ∙ (ap (λ b. cond (b && is_some cube) cube (get nat_eq scope.cubes id)) same_id ∙ noted (get nat_eq scope.cubes id) cube no_cube))) point;
-    tope = subst (λ b. (b ≡ true) ↔ IsOver (map (tree_of nodes) scope.entries.items) (tree_of nodes id))
+    tope = subst (λ b. (b ≡ true) ↔ IsTopeOver (binders_at nodes scope.entries.items) (tree_of nodes id))
         (sym (noted_over id ∙ (ap (λ b. cond (b && is_over) true (contains nat_eq scope.over id)) same_id ∙ noted_test (contains nat_eq scope.over id) is_over over_still))) tope;
   }
 
@@ -140,8 +140,8 @@ module _ (nodes : List Node) (scope : Scope) (cubes : HashMap ℕ ℕ (BuildHash
     | inl is_id ↦ is_id
     | inr same ↦ record {
       live = told.live;
-      point = subst (IsCubeTold nodes (cube_of (map (tree_of nodes) scope.entries.items) (tree_of nodes q))) (sym same.0) told.point;
-      tope = subst (λ b. (b ≡ true) ↔ IsOver (map (tree_of nodes) scope.entries.items) (tree_of nodes q)) (sym same.1) told.tope;
+      point = subst (IsCubeTold nodes (cube_of (binders_at nodes scope.entries.items) (tree_of nodes q))) (sym same.0) told.point;
+      tope = subst (λ b. (b ≡ true) ↔ IsTopeOver (binders_at nodes scope.entries.items) (tree_of nodes q)) (sym same.1) told.tope;
     }
   ]
 

@@ -1,130 +1,78 @@
--- Each step of a walk keeps what is left to show.
-use Rattle.std.proofs.Common.{◌≡◌, ℕ, ◌-◌, ◌<◌, List, [], ◌∷◌, ◌++◌, length, take, drop, map, All, Some, refl, sym, ap, subst, ◌∙◌, arith}
-use Rattle.std.specs.Prelude.{◌↔◌, reverse}
-use Rattle.std.proofs.lemmas.List.{map-append, reverse-append, reverse-reverse, take_at, drop_at, take-append-drop, length-map, length-reverse, get_or-reverse}
-use Rattle.std.proofs.lemmas.List.Elements.{All-pop, All-push, All-append}
-use Rattle.rz_rules.specs.declared.kinds.Kind.{Kind}
-use Rattle.rz_rules.specs.declared.rows.Symbol.{Symbol}
-use Rattle.rz_rules.specs.declared.rows.Symbol.TheVariants.{Letter, Node as NodeOf}
+-- What a walk past a symbol keeps.
+use Rattle.std.proofs.Common.{◌≡◌, ℕ, zero, suc, ◌<◌, Bool, true, false, List, [], ◌∷◌, ◌++◌, Some, None, Option, length, take, drop, map, replicate, All, refl, sym, ap, subst, ◌∙◌, arith}
+use Rattle.std.specs.Prelude.{is_some}
+use Rattle.std.proofs.lemmas.List.Elements.{All-append, All-head, All-map, All-replicate}
 use Rattle.rz_rules.specs.declared.nodes.Node.{Node}
-use Rattle.rz_rules.specs.declared.judgments.Judgment.{Judgment}
-use Rattle.rz_rules.specs.Form.{form}
-use Rattle.rz_rules.specs.Tree.{Tree, Trees, At, trees_of, tree_at, tree_of, tree_over, trees_in}
-use Rattle.rz_rules.specs.Judgment.{Statement, statement}
-use Rattle.rz_rules.specs.Row.{Spelled, spelled}
-use Rattle.rz_kernel_rows.specs.Matching.{Means}
-use Rattle.rz_rules.proofs.Trees.{trees_of_injective}
-use Rattle.rz_pool.specs.Pool.{HasForm}
-use Rattle.rz_kernel_rows.proofs.Nodes.{kid_count}
+use Rattle.rz_rules.specs.Tree.{Tree, tree_at, tree_of}
+use Rattle.rz_kernel_rows.specs.Finding.{Agrees, IsLive, first_expected, is_known}
 
--- what is spelled is its two parts
-spelled_is : (s : Spelled) (ts : List Tree) (js : List Statement) → s.trees ≡ ts → s.statements ≡ js → s ≡ record { trees = ts; statements = js }
-spelled_is s ts js p q = λ i. record { trees = p i; statements = q i }
+-- the rest of a stack behind one tree more
+drop-drop_one : {A : Type 0} (n : ℕ) (xs : List A) → drop n (drop 1 xs) ≡ drop (suc n) xs
+drop-drop_one zero [] = refl
+drop-drop_one (suc n) [] = refl
+drop-drop_one n (x ∷ xs) = refl
 
-trees_are : (s : Spelled) (ts : List Tree) (js : List Statement) → s ≡ record { trees = ts; statements = js } → s.trees ≡ ts
-trees_are s ts js e = ap (λ (x : Spelled). x.trees) e
+module _ (nodes : List Node) where
+  -- what is expected next, and what behind it
+  pub Agrees-next : (expected : List (Option ℕ)) (trees : List Tree) (id : ℕ) → first_expected expected ≡ Some id → Agrees nodes expected trees → tree_at trees 0 ≡ tree_of nodes id
+  Agrees-next [] trees id e h = absurd cc
+  Agrees-next (None ∷ expected) trees id e h = absurd cc
+  Agrees-next (Some other ∷ expected) trees id e h =
+      let same : other ≡ id = cc in
+      h.0 ∙ ap (tree_of nodes) same
 
-statements_are : (s : Spelled) (ts : List Tree) (js : List Statement) → s ≡ record { trees = ts; statements = js } → s.statements ≡ js
-statements_are s ts js e = ap (λ (x : Spelled). x.statements) e
+  pub Agrees-rest : (expected : List (Option ℕ)) (trees : List Tree) → Agrees nodes expected trees → Agrees nodes (drop 1 expected) (drop 1 trees)
+  Agrees-rest [] trees h = tt
+  Agrees-rest (None ∷ expected) trees h = h
+  Agrees-rest (Some id ∷ expected) trees h = h.1
 
-reverse_last : (places : List ℕ) (place : ℕ) → reverse (places ++ place ∷ []) ≡ place ∷ reverse places
-reverse_last places place = reverse-append places (place ∷ [])
+  -- so many unknown trees in front
+  pub Agrees-unknown : (count : ℕ) (expected : List (Option ℕ)) (trees : List Tree) → Agrees nodes expected (drop count trees) → Agrees nodes (replicate count None ++ expected) trees
+  Agrees-unknown zero expected trees h = h
+  Agrees-unknown (suc count) expected trees h =
+      Agrees-unknown count expected (drop 1 trees) (subst (Agrees nodes expected) (sym (drop-drop_one count trees)) h)
 
-module _ (ts : List Tree) (text : List Symbol) (letters : ℕ → Tree) where
-  -- a letter
-  pub letter_step : (k place : ℕ) (expected : List ℕ) (rest : List Judgment) (found : List (ℕ × ℕ))
-      → Means ts text letters expected rest (found ++ (k, place) ∷ []) ↔ Means ts (Letter k ∷ text) letters (expected ++ place ∷ []) rest found
-  letter_step k place expected rest found = (to, back) where
-    last : map (tree_at ts) (reverse (expected ++ place ∷ [])) ≡ tree_at ts place ∷ map (tree_at ts) (reverse expected)
-    last = ap (map (tree_at ts)) (reverse_last expected place)
+  -- the kids of a node in front
+  pub Agrees-known : (kids : List ℕ) (count : ℕ) (expected : List (Option ℕ)) (trees : List Tree) → count ≡ length kids → take count trees ≡ map (tree_of nodes) kids
+      → Agrees nodes expected (drop count trees) → Agrees nodes (map (λ (id : ℕ). Some id) kids ++ expected) trees
+  Agrees-known [] zero expected trees n e h = h
+  Agrees-known [] (suc count) expected trees n e h = absurd (omega arith)
+  Agrees-known (kid ∷ kids) zero expected trees n e h = absurd (omega arith)
+  Agrees-known (kid ∷ kids) (suc count) expected [] n e h = absurd cc
+  Agrees-known (kid ∷ kids) (suc count) expected (tree ∷ trees) n e h =
+      let first : tree ≡ tree_of nodes kid = cc in
+      let others : take count trees ≡ map (tree_of nodes) kids = cc in
+      (first, Agrees-known kids count expected trees (omega arith) others h)
 
-    to : Means ts text letters expected rest (found ++ (k, place) ∷ []) → Means ts (Letter k ∷ text) letters (expected ++ place ∷ []) rest found
-    to h =
-        let split = All-pop (λ (met : ℕ × ℕ). letters met.0 ≡ tree_at ts met.1) (found ++ (k, place) ∷ []) found (Some (k, place)) refl h.0 in
-        let here : letters k ≡ tree_at ts place = split.1 in
-        let parts : letters k ∷ (spelled text letters).trees ≡ tree_at ts place ∷ map (tree_at ts) (reverse expected) =
-        let others = trees_are (spelled text letters) (map (tree_at ts) (reverse expected)) (map (statement ts) rest) h.1 in cc in
-        (split.0, spelled_is (spelled (Letter k ∷ text) letters) _ _ (parts ∙ sym last) (statements_are (spelled text letters) (map (tree_at ts) (reverse expected)) (map (statement ts) rest) h.1))
+-- whether trees are known
+pub is_known-next : (expected : List (Option ℕ)) → is_known (map is_some expected) ≡ is_some (first_expected expected)
+is_known-next [] = refl
+is_known-next (tree ∷ expected) = refl
 
-    back : Means ts (Letter k ∷ text) letters (expected ++ place ∷ []) rest found → Means ts text letters expected rest (found ++ (k, place) ∷ [])
-    back h =
-        let all : letters k ∷ (spelled text letters).trees ≡ tree_at ts place ∷ map (tree_at ts) (reverse expected) =
-        trees_are (spelled (Letter k ∷ text) letters) (map (tree_at ts) (reverse (expected ++ place ∷ []))) (map (statement ts) rest) h.1 ∙ last in
-        let here : letters k ≡ tree_at ts place = cc in
-        let others : (spelled text letters).trees ≡ map (tree_at ts) (reverse expected) = cc in (
-          All-push (λ (met : ℕ × ℕ). letters met.0 ≡ tree_at ts met.1) found (k, place) h.0 here,
-          spelled_is (spelled text letters) _ _ others (statements_are (spelled (Letter k ∷ text) letters) (map (tree_at ts) (reverse (expected ++ place ∷ []))) (map (statement ts) rest) h.1),
-        )
+pub known-rest : (expected : List (Option ℕ)) → drop 1 (map is_some expected) ≡ map is_some (drop 1 expected)
+known-rest [] = refl
+known-rest (tree ∷ expected) = refl
 
-  -- a node
-  pub node_step : (kind : Kind) (place : ℕ) (kids expected : List ℕ) (rest : List Judgment) (found : List (ℕ × ℕ))
-      → tree_at ts place ≡ At kind 0 [] (trees_of (map (tree_at ts) kids)) → length kids ≡ length (form kind).kids
-      → Means ts text letters (expected ++ reverse kids) rest found ↔ Means ts (NodeOf kind ∷ text) letters (expected ++ place ∷ []) rest found
-  node_step kind place kids expected rest found here count = (to, back) where
-    last : map (tree_at ts) (reverse (expected ++ place ∷ [])) ≡ tree_at ts place ∷ map (tree_at ts) (reverse expected)
-    last = ap (map (tree_at ts)) (reverse_last expected place)
+pub known-unknown : (count : ℕ) (expected : List (Option ℕ)) → map is_some (replicate count None ++ expected) ≡ replicate count false ++ map is_some expected
+known-unknown zero expected = refl
+known-unknown (suc count) expected = ap (λ (bs : List Bool). false ∷ bs) (known-unknown count expected)
 
-    front : map (tree_at ts) (reverse (expected ++ reverse kids)) ≡ map (tree_at ts) kids ++ map (tree_at ts) (reverse expected)
-    front = ap (map (tree_at ts)) (reverse-append expected (reverse kids) ∙ ap (λ (ks : List ℕ). ks ++ reverse expected) (reverse-reverse kids)) ∙ map-append (tree_at ts) kids (reverse expected)
-
-    long : length (map (tree_at ts) kids) ≡ length (form kind).kids
-    long = length-map kids (tree_at ts) ∙ count
-
-    to : Means ts text letters (expected ++ reverse kids) rest found → Means ts (NodeOf kind ∷ text) letters (expected ++ place ∷ []) rest found
-    to h =
-        let m = length (form kind).kids in
-        let all : (spelled text letters).trees ≡ map (tree_at ts) kids ++ map (tree_at ts) (reverse expected) =
-        trees_are (spelled text letters) (map (tree_at ts) (reverse (expected ++ reverse kids))) (map (statement ts) rest) h.1 ∙ front in
-        let taken : take m (spelled text letters).trees ≡ map (tree_at ts) kids = ap (take m) all ∙ take_at (map (tree_at ts) kids) (map (tree_at ts) (reverse expected)) m long in
-        let dropped : drop m (spelled text letters).trees ≡ map (tree_at ts) (reverse expected) = ap (drop m) all ∙ drop_at (map (tree_at ts) kids) (map (tree_at ts) (reverse expected)) m long in
-        let node : At kind 0 [] (trees_of (take m (spelled text letters).trees)) ≡ tree_at ts place = ap (λ (us : List Tree). At kind 0 [] (trees_of us)) taken ∙ sym here in
-        let parts : At kind 0 [] (trees_of (take m (spelled text letters).trees)) ∷ drop m (spelled text letters).trees ≡ tree_at ts place ∷ map (tree_at ts) (reverse expected) = cc in
-        (h.0, spelled_is (spelled (NodeOf kind ∷ text) letters) _ _ (parts ∙ sym last) (statements_are (spelled text letters) (map (tree_at ts) (reverse (expected ++ reverse kids))) (map (statement ts) rest) h.1))
-
-    back : Means ts (NodeOf kind ∷ text) letters (expected ++ place ∷ []) rest found → Means ts text letters (expected ++ reverse kids) rest found
-    back h =
-        let m = length (form kind).kids in
-        let all : At kind 0 [] (trees_of (take m (spelled text letters).trees)) ∷ drop m (spelled text letters).trees ≡ tree_at ts place ∷ map (tree_at ts) (reverse expected) =
-        trees_are (spelled (NodeOf kind ∷ text) letters) (map (tree_at ts) (reverse (expected ++ place ∷ []))) (map (statement ts) rest) h.1 ∙ last in
-        let head : At kind 0 [] (trees_of (take m (spelled text letters).trees)) ≡ tree_at ts place = cc in
-        let dropped : drop m (spelled text letters).trees ≡ map (tree_at ts) (reverse expected) = cc in
-        let same : At kind 0 [] (trees_of (take m (spelled text letters).trees)) ≡ At kind 0 [] (trees_of (map (tree_at ts) kids)) = head ∙ here in
-        let kids_same : trees_of (take m (spelled text letters).trees) ≡ trees_of (map (tree_at ts) kids) = cc in
-        let taken : take m (spelled text letters).trees ≡ map (tree_at ts) kids = trees_of_injective _ _ kids_same in
-        let whole : (spelled text letters).trees ≡ map (tree_at ts) kids ++ map (tree_at ts) (reverse expected) =
-        let joined = take-append-drop m (spelled text letters).trees in cc in
-        (h.0, spelled_is (spelled text letters) _ _ (whole ∙ sym front) (statements_are (spelled (NodeOf kind ∷ text) letters) (map (tree_at ts) (reverse (expected ++ place ∷ []))) (map (statement ts) rest) h.1))
-
-  pub node_other : (kind other : Kind) (number place : ℕ) (name : List ℕ) (kids : Trees) (expected : List ℕ) (rest : List Judgment) (found : List (ℕ × ℕ))
-      → tree_at ts place ≡ At other number name kids → ((other ≡ kind) × (number ≡ 0) × (name ≡ []) → ⊥)
-      → Means ts (NodeOf kind ∷ text) letters (expected ++ place ∷ []) rest found → ⊥
-  node_other kind other number place name kids expected rest found here differs h =
-      let m = length (form kind).kids in
-      let all : At kind 0 [] (trees_of (take m (spelled text letters).trees)) ∷ drop m (spelled text letters).trees ≡ tree_at ts place ∷ map (tree_at ts) (reverse expected) =
-      trees_are (spelled (NodeOf kind ∷ text) letters) (map (tree_at ts) (reverse (expected ++ place ∷ []))) (map (statement ts) rest) h.1 ∙ ap (map (tree_at ts)) (reverse_last expected place) in
-      let head : At kind 0 [] (trees_of (take m (spelled text letters).trees)) ≡ At other number name kids =
-      let first : At kind 0 [] (trees_of (take m (spelled text letters).trees)) ≡ tree_at ts place = cc in first ∙ here in
-      let same : other ≡ kind = cc in
-      let zeroed : number ≡ 0 = cc in
-      let unnamed : name ≡ [] = cc in
-      differs (same, zeroed, unnamed)
+pub known-known : (kids : List ℕ) (count : ℕ) (expected : List (Option ℕ)) → count ≡ length kids
+    → map is_some (map (λ (id : ℕ). Some id) kids ++ expected) ≡ replicate count true ++ map is_some expected
+known-known [] zero expected n = refl
+known-known [] (suc count) expected n = absurd (omega arith)
+known-known (kid ∷ kids) zero expected n = absurd (omega arith)
+known-known (kid ∷ kids) (suc count) expected n = ap (λ (bs : List Bool). true ∷ bs) (known-known kids count expected (omega arith))
 
 -- what is expected is there
-All-reverse : (P : ℕ → Type 0) (places : List ℕ) → All P places → All P (reverse places)
-All-reverse P places h k d lt =
-    let long = length-reverse places in
-    subst P (sym (get_or-reverse places k d (omega (arith, lt, long)))) (h (length places - 1 - k) d (omega (arith, lt, long)))
+module _ (nodes : List Node) where
+  pub live-known : (ids : List ℕ) (expected : List (Option ℕ)) → All (λ id. id < length nodes) ids → All (IsLive nodes) expected → All (IsLive nodes) (map (λ (id : ℕ). Some id) ids ++ expected)
+  live-known ids expected low h =
+      All-append (IsLive nodes) (map (λ (id : ℕ). Some id) ids) expected (All-map (IsLive nodes) (λ (id : ℕ). Some id) ids low) h
 
-pub All-expected : (count : ℕ) (expected places : List ℕ) → All (λ place. place < count) expected → All (λ place. place < count) places → All (λ place. place < count) (expected ++ reverse places)
-All-expected count expected places h g = All-append (λ place. place < count) expected (reverse places) h (All-reverse (λ place. place < count) places g)
+  pub live-unknown : (count : ℕ) (expected : List (Option ℕ)) → All (IsLive nodes) expected → All (IsLive nodes) (replicate count None ++ expected)
+  live-unknown count expected h = All-append (IsLive nodes) (replicate count None) expected (All-replicate (IsLive nodes) count None tt) h
 
--- a node that is read, as its parts
-pub plain_parts : (ns : List Node) (i : ℕ) (n : Node) (kind : Kind) → tree_of ns i ≡ tree_over (trees_in ns) n → HasForm ns i n → (n.kind ≡ kind) × (n.number ≡ 0) × (n.name ≡ [])
-    → (tree_at (trees_in ns) i ≡ At kind 0 [] (trees_of (map (tree_at (trees_in ns)) n.kids))) × (length n.kids ≡ length (form kind).kids)
-plain_parts ns i n kind is fine plain =
-    let parts : tree_over (trees_in ns) n ≡ At kind 0 [] (trees_of (map (tree_at (trees_in ns)) n.kids)) =
-    λ j. At (plain.0 j) (plain.1 j) (plain.2 j) (trees_of (map (tree_at (trees_in ns)) n.kids)) in
-    (is ∙ parts, kid_count ns i n fine ∙ ap (λ (k : Kind). length (form k).kids) plain.0)
-
-pub kids_low : (ns : List Node) (i : ℕ) (n : Node) → i < length ns → HasForm ns i n → All (λ place. place < length ns) n.kids
-kids_low ns i n lt fine k d l = omega (arith, fine.kids k d l)
+  pub live-next : (expected : List (Option ℕ)) (id : ℕ) → first_expected expected ≡ Some id → All (IsLive nodes) expected → id < length nodes
+  live-next [] id e h = absurd cc
+  live-next (tree ∷ expected) id e h = subst (IsLive nodes) e (All-head (IsLive nodes) tree expected h)

@@ -1,3 +1,4 @@
 pub mod Scope
-pub mod Matching
+pub mod Finding
+pub mod Line
 pub use Rattle.rz_rules.specs.Derivation

@@ -7,9 +7,10 @@ use Rattle.rz_rules.specs.declared.kinds.Kind.{Kind}
 use Rattle.rz_rules.specs.declared.nodes.Node.{Node}
 use Rattle.rz_rules.specs.Form.{kid_sorts}
 use Rattle.rz_rules.specs.Tree.{Tree, sort_of, tree_of}
-use Rattle.rz_rules.specs.Tope.{cube_two, product, left_part, right_part, leaves, cubes_of, cube_of, IsOver}
-use Rattle.rz_kernel_rows.specs.declared.scope.Entry.{Entry}
-use Rattle.rz_kernel_rows.specs.declared.scope.Scope.{Scope}
+use Rattle.rz_rules.specs.Cube.{Binders, cube_two, product, left_part, right_part, leaves, cubes_of}
+use Rattle.rz_rules.specs.Tope.{cube_of, IsTopeOver}
+use Rattle.rz_kernel_rows.specs.declared.points.Entry.{Entry}
+use Rattle.rz_kernel_rows.specs.declared.points.Scope.{Scope}
 
 -- the id of a cube
 abbrev pub IsCubeAt : List Node → ℕ → Type 0
@@ -61,11 +62,15 @@ pub record IsEntry (nodes : List Node) (context : ℕ) (entry : Entry) : Type 0 
   pub cubes : cubes_of (tree_of nodes context) ≡ with_cube (option_map (tree_of nodes) entry.cube) (cubes_of (tree_of nodes entry.before))
   pub there : IfSome entry.cube (IsCubeAt nodes)
 
+-- the binders with the cubes of these ids
+abbrev pub binders_at : List Node → List ℕ → Binders
+binders_at nodes entries = record { cubes = map (tree_of nodes) entries }
+
 -- all is told of an id: the cube of its point, where it has one, and whether it is a tope over the cubes with these ids
 pub record IsTold (nodes : List Node) (entries : List ℕ) (cubes : ℕ → Option ℕ) (over : ℕ → Bool) (id : ℕ) : Type 0 where
   pub live : id < length nodes
-  pub point : IsCubeTold nodes (cube_of (map (tree_of nodes) entries) (tree_of nodes id)) (cubes id)
-  pub tope : IsTrue (over id) ↔ IsOver (map (tree_of nodes) entries) (tree_of nodes id)
+  pub point : IsCubeTold nodes (cube_of (binders_at nodes entries) (tree_of nodes id)) (cubes id)
+  pub tope : IsTrue (over id) ↔ IsTopeOver (binders_at nodes entries) (tree_of nodes id)
 
 -- nothing is told of an id
 abbrev pub IsUntold : (ℕ → Option ℕ) → (ℕ → Bool) → ℕ → Type 0

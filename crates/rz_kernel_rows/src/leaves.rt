@@ -2,10 +2,10 @@
 
 ghost use Rattle.std.specs.Prelude.{◌<◌, ◌≤◌, ◌↔◌, [], ◌∷◌, ◌+◌, ◌++◌, length, All, IsTrue, IfOk, IfSome, IfNone};
 ghost use Rattle.rz_rules.specs.Tree.{tree_of};
-ghost use Rattle.rz_rules.specs.Tope.{leaves};
+ghost use Rattle.rz_rules.specs.Cube.{leaves};
 ghost use Rattle.rz_kernel_rows.specs.Scope.{IsProductOf, IsNoProduct, IsStep};
 
-use crate::scope::two_kids;
+use crate::points::two_kids;
 use rz_pool::Pool;
 use rz_rules::{Kind, OutOfMemory};
 use std::alloc::Global;
@@ -55,7 +55,8 @@ fn counted(
     requires there { cube < length pool.now.nodes }
     requires low { All (λ id. id < length pool.now.nodes) waiting.old.items }
     requires few { count ≤ 64 }
-    ensures step { IfOk result (IsStep pool.now.nodes (waiting.old.items ++ cube ∷ []) count waiting.new.items) }
+    ensures step { IfOk result
+        (IsStep pool.now.nodes (waiting.old.items ++ cube ∷ []) count waiting.new.items) }
     ensures bound { IfOk result (λ new. new ≤ count + 1) }
 {
     let Some((left, right)) = parts_of(pool, cube) else {

@@ -2,12 +2,9 @@
 #![tactic(auto)]
 
 mod conditions;
+mod find;
 mod leaves;
 mod lines;
-mod matching;
-mod scope;
+mod points;
 
 pub use lines::follows;
-
-#[cfg(test)]
-mod tests;

@@ -4,12 +4,20 @@ ghost use Rattle.std.specs.Prelude.{◌≡◌, ℕ, ◌↔◌, List, All, IsTrue
 ghost use Rattle.std.specs.Option.{option_copied};
 ghost use Rattle.rz_rules.specs.declared.judgments.Judgment.{Judgment};
 ghost use Rattle.rz_rules.specs.Derivation.{Follows};
-ghost use Rattle.rz_kernel_rows.specs.Matching.{IsLive, said, statements_of, step_of};
+ghost use Rattle.rz_rules.specs.Judgment.{statement};
+ghost use Rattle.rz_rules.specs.Row.{IsInstance};
+ghost use Rattle.rz_rules.specs.Table.{rule_of};
+ghost use Rattle.rz_rules.specs.Tree.{trees_in};
+ghost use Rattle.rz_pool.specs.Pool.{Grows, IsPool};
+ghost use Rattle.rz_spell.specs.Letters.{assignment_of};
+ghost use Rattle.rz_spell.specs.Spelling.{AreLetters};
+ghost use Rattle.rz_kernel_rows.specs.Line.{IsInstanceOf, IsJudgmentOver, IsLineOver, said, statements_of, step_of};
 
 use crate::conditions::{are_met, is_scoped};
-use crate::matching::{agree, letters};
+use crate::find::{Finding, find};
 use rz_pool::Pool;
-use rz_rules::{Judgment, Line, OutOfMemory};
+use rz_rules::{Judgment, Line, OutOfMemory, Row};
+use rz_spell::spell;
 use std::alloc::Global;
 
 /// Whether a line follows by its row from earlier ones. All name nodes of one pool, by their ids.
@@ -21,9 +29,10 @@ pub fn follows(
     lines: &[Line],
     line: &Line,
 ) -> Result<bool, OutOfMemory>
-    requires lines { All (IsLive pool.old.nodes) lines.now }
-    requires line { IsLive pool.old.nodes line.now }
-    ensures follows { IfOk result (λ yes. IsTrue yes ↔ Follows (statements_of pool.old.nodes lines.now) (step_of pool.old.nodes line.now)) }
+    requires lines { All (IsLineOver pool.old.nodes) lines.now }
+    requires line { IsLineOver pool.old.nodes line.now }
+    ensures follows { IfOk result (λ yes. IsTrue yes
+        ↔ Follows (statements_of pool.old.nodes lines.now) (step_of pool.old.nodes line.now)) }
     ensures nodes { pool.new.nodes ≡ pool.old.nodes }
 {
     if line.number != 0 {
@@ -33,16 +42,72 @@ pub fn follows(
         return Ok(false);
     };
     judgments.push(line.says)?;
-    let Some(found) = letters(alloc, pool, line.row.text(), &judgments)? else {
-        return Ok(false);
-    };
-    if !agree(pool, &found) {
-        return Ok(false);
-    }
-    if !are_met(alloc, pool, line.row.conditions(), &found)? {
+    if !applies(alloc, pool, line.row, &judgments)? {
         return Ok(false);
     }
     is_scoped(alloc, pool, line.says)
+}
+
+/// Whether a row's rule leads from all but the last of these judgments to the last.
+fn applies(
+    alloc: Global,
+    pool: &mut Pool,
+    row: Row,
+    judgments: &[Judgment],
+) -> Result<bool, OutOfMemory>
+    requires { All (IsJudgmentOver pool.old.nodes) judgments.now }
+    ensures applies { IfOk result (λ yes. IsTrue yes
+        ↔ IsInstanceOf (rule_of row) (map (statement (trees_in pool.old.nodes)) judgments.now)) }
+    ensures nodes { pool.new.nodes ≡ pool.old.nodes }
+    ensures pool { IsPool pool.old.nodes }
+{
+    let mark = pool.mark();
+    let Some(finding) = find(alloc, pool, row.text(), judgments)? else {
+        return Ok(false);
+    };
+    let spelled = is_spelled(alloc, pool, row, &finding, judgments);
+    pool.release(mark);
+    if !spelled? {
+        return Ok(false);
+    }
+    are_met(
+        alloc,
+        pool,
+        row.conditions(),
+        &finding.letters,
+        finding.name,
+    )
+}
+
+/// Whether a row's text spells these judgments, with what was found.
+fn is_spelled(
+    alloc: Global,
+    pool: &mut Pool,
+    row: Row,
+    finding: &Finding,
+    judgments: &[Judgment],
+) -> Result<bool, OutOfMemory>
+    requires pool { IsPool pool.old.nodes }
+    requires judgments { All (IsJudgmentOver pool.old.nodes) judgments.now }
+    requires letters { AreLetters pool.old.nodes
+        (rule_of row).text finding.now.letters.items finding.now.name }
+    ensures spelled { IfOk result (λ yes. IsTrue yes
+        ↔ IsInstance (rule_of row).text
+        (assignment_of pool.old.nodes finding.now.letters.items finding.now.name)
+        (map (statement (trees_in pool.old.nodes)) judgments.now)) }
+    ensures grows { Grows pool.old.nodes pool.new.nodes }
+{
+    match spell(alloc, pool, row.text(), &finding.letters, finding.name)? {
+        Some(said) => Ok(are_equal(&said, judgments)),
+        None => Ok(false),
+    }
+}
+
+/// Whether these are the same judgments in the same order.
+fn are_equal(these: &[Judgment], those: &[Judgment]) -> bool
+    ensures { IsTrue result ↔ (these.now ≡ those.now) }
+{
+    these == those
 }
 
 /// What the lines say that are named as premises; `None` where one of them is no line.
@@ -51,8 +116,10 @@ fn premises_of(
     lines: &[Line],
     from: &[u64],
 ) -> Result<Option<Vec<Judgment>>, OutOfMemory>
-    ensures found { IfOk result (λ answer. IfSome answer (λ premises. map (λ j. Some j) premises.items ≡ map (slice_get (said lines.now)) from.now)) }
-    ensures none { IfOk result (λ answer. IfNone answer ((premises : List Judgment) → map (λ j. Some j) premises ≡ map (slice_get (said lines.now)) from.now → ⊥)) }
+    ensures found { IfOk result (λ answer. IfSome answer (λ premises. map
+        (λ j. Some j) premises.items ≡ map (slice_get (said lines.now)) from.now)) }
+    ensures none { IfOk result (λ answer. IfNone answer ((premises : List Judgment)
+        → map (λ j. Some j) premises ≡ map (slice_get (said lines.now)) from.now → ⊥)) }
 {
     let mut premises = Vec::new(alloc);
     for step in from {

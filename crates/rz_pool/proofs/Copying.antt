@@ -5,10 +5,11 @@ use Rattle.std.proofs.lemmas.List.Elements.{All-head, All-tail, All-map, All-wea
 use Rattle.std.proofs.lemmas.Bool.{cases_lt}
 use Rattle.std.specs.Cmp.{unsigned_Decides}
 use Rattle.rz_rules.specs.declared.nodes.Node.{Node}
-use Rattle.rz_rules.specs.File.{IsName}
+use Rattle.rz_rules.specs.Name.{IsName}
 use Rattle.rz_rules.specs.Tree.{Tree, At, trees_of, sort_of, trees_in, tree_over, tree_of}
 use Rattle.rz_pool.specs.Part.{IsPart}
-use Rattle.rz_pool.specs.Pool.{HasForm, Makes, Adds}
+use Rattle.rz_pool.specs.Pool.{Makes, Adds}
+use Rattle.rz_rules.specs.Tree.{HasForm}
 use Rattle.rz_pool.specs.Copy.{AreSettled, StandForParts, ListsParts, IsCopied}
 use Rattle.rz_pool.proofs.Nodes.{Grows-same, Grows-trans, length-Grows, KeepsTrees-Grows}
 
@@ -68,14 +69,16 @@ module _ (from to : List Node) (copies : ℕ → Option ℕ) where
     trees : map (tree_of to) kids ≡ map (tree_of from) node.kids
     trees = ap (map (tree_of to)) moved ∙ copied_trees node.kids copied
 
-    pub HasForm-copy : (bound : ℕ) → HasForm from bound node → HasForm to (length to) (record { kind = node.kind; number = node.number; name = name; kids = kids })
+    pub HasForm-copy : (bound : ℕ) → HasForm (trees_in from) bound node → HasForm (trees_in to) (length to) (record { kind = node.kind; number = node.number; name = name; kids = kids })
     HasForm-copy bound form = record {
       kids = subst (All (λ id. id < length to)) (sym moved) (All-map (λ id. id < length to) copy_of node.kids (All-weaker (IsCopied copies from to) (λ id. copy_of id < length to) copied_live node.kids copied));
       sorts = ap (map sort_of) trees ∙ form.sorts;
-      number = form.number;
-      unnumbered = form.unnumbered;
-      unnamed = λ e. same ∙ form.unnamed e;
-      named = λ e. subst IsName (sym same) (form.named e);
+      label = record {
+        small = form.label.small;
+        unnumbered = form.label.unnumbered;
+        unnamed = λ e. same ∙ form.label.unnamed e;
+        named = λ e. subst IsName (sym same) (form.label.named e);
+      };
     }
 
     -- what is made of it has the tree of the node

@@ -1,6 +1,9 @@
 pub mod Nodes
+pub mod FreeBounds
+pub mod KeptBounds
 pub mod Sets
 pub mod Orders
 pub mod Listing
 pub mod Copying
 pub mod Sorts
+pub mod WellFormed

@@ -8,7 +8,8 @@ use Rattle.rz_rules.specs.declared.nodes.Node.{Node}
 use Rattle.rz_rules.specs.Tree.{Tree, trees_of, sort_of, tree_at, tree_over, trees_in, tree_of}
 use Rattle.rz_rules.proofs.Equal.{same_fields}
 use Rattle.rz_rules.proofs.Trees.{trees_of_injective, trees_in_push, length-trees_in, tree_at_last, trees_of-append, tree_of-append, tree_of_node}
-use Rattle.rz_pool.specs.Pool.{HasForm, HaveForms, ShareTrees, IsPool, Grows, KeepsTrees, Makes}
+use Rattle.rz_pool.specs.Pool.{ShareTrees, IsPool, Grows, KeepsTrees, Makes}
+use Rattle.rz_rules.specs.Tree.{HasForm, HaveForms}
 
 -- the tree of an id is that of its node
 pub tree_of_place : (ns : List Node) → HaveForms ns → (i : ℕ) (n : Node) → slice_get ns i ≡ Some n → tree_of ns i ≡ tree_over (trees_in ns) n
@@ -21,18 +22,18 @@ module _ (ns ms : List Node) (bound : ℕ) (n : Node) (le : bound ≤ length ns)
   kid_trees : All (λ id. id < bound) n.kids → map sort_of (map (tree_of (ns ++ ms)) n.kids) ≡ map sort_of (map (tree_of ns) n.kids)
   kid_trees low = ap (map sort_of) (trees_of-append ns ms n.kids (λ k d l. omega (arith, low k d l)))
 
-  pub HasForm-append : HasForm ns bound n → HasForm (ns ++ ms) bound n
-  HasForm-append h = record { kids = h.kids; sorts = kid_trees h.kids ∙ h.sorts; number = h.number; unnumbered = h.unnumbered; unnamed = h.unnamed; named = h.named }
+  pub HasForm-append : HasForm (trees_in ns) bound n → HasForm (trees_in (ns ++ ms)) bound n
+  HasForm-append h = record { kids = h.kids; sorts = kid_trees h.kids ∙ h.sorts; label = h.label }
 
-  pub HasForm-front : HasForm (ns ++ ms) bound n → HasForm ns bound n
-  HasForm-front h = record { kids = h.kids; sorts = sym (kid_trees h.kids) ∙ h.sorts; number = h.number; unnumbered = h.unnumbered; unnamed = h.unnamed; named = h.named }
+  pub HasForm-front : HasForm (trees_in (ns ++ ms)) bound n → HasForm (trees_in ns) bound n
+  HasForm-front h = record { kids = h.kids; sorts = sym (kid_trees h.kids) ∙ h.sorts; label = h.label }
 
 -- what stands at a place of a front
-pub slice_get-front : (ns ms : List Node) (i : ℕ) (n : Node) → i < length ns → slice_get (ns ++ ms) i ≡ Some n → slice_get ns i ≡ Some n
+pub slice_get-front : {X : Type 0} (ns ms : List X) (i : ℕ) (n : X) → i < length ns → slice_get (ns ++ ms) i ≡ Some n → slice_get ns i ≡ Some n
 slice_get-front ns ms i n l at =
     slice_get-get_or ns i n l ∙ ap Some (sym (get_or_append_left ns ms n i l) ∙ get_or_from_slice_get (ns ++ ms) i n n at)
 
-pub slice_get-append : (ns ms : List Node) (i : ℕ) (n : Node) → slice_get ns i ≡ Some n → slice_get (ns ++ ms) i ≡ Some n
+pub slice_get-append : {X : Type 0} (ns ms : List X) (i : ℕ) (n : X) → slice_get ns i ≡ Some n → slice_get (ns ++ ms) i ≡ Some n
 slice_get-append ns ms i n at =
     let l : i < length ns = slice_get_within ns i n at in
     slice_get-get_or (ns ++ ms) i n (omega (arith, length-append ns ms))
@@ -64,7 +65,7 @@ same_nodes ns shared m n hm hn e =
     same_fields m n kind number name same
 
 -- one node more
-module _ (ns : List Node) (n : Node) (pool : IsPool ns) (fine : HasForm ns (length ns) n) where
+module _ (ns : List Node) (n : Node) (pool : IsPool ns) (fine : HasForm (trees_in ns) (length ns) n) where
   HaveForms-push : HaveForms (ns ++ n ∷ [])
   HaveForms-push id node at =
       elim (cases_lt id (length ns)) [
@@ -73,8 +74,8 @@ module _ (ns : List Node) (n : Node) (pool : IsPool ns) (fine : HasForm ns (leng
             let within : id < length (ns ++ n ∷ []) = slice_get_within (ns ++ n ∷ []) id node at in
             let last : length ns ≡ id = omega (arith, length_push ns n) in
             let here : n ≡ node = sym (get_or_push ns n node id last) ∙ get_or_from_slice_get (ns ++ n ∷ []) id node node at in
-            subst (HasForm (ns ++ n ∷ []) id) here
-            (subst (λ (k : ℕ). HasForm (ns ++ n ∷ []) k n) last (HasForm-append ns (n ∷ []) (length ns) n (omega arith) fine))
+            subst (HasForm (trees_in (ns ++ n ∷ [])) id) here
+            (subst (λ (k : ℕ). HasForm (trees_in (ns ++ n ∷ [])) k n) last (HasForm-append ns (n ∷ []) (length ns) n (omega arith) fine))
       ]
 
   ts : List Tree
@@ -146,7 +147,7 @@ KeepsTrees-take ns k bound below within id l =
     ∙ ap (λ (ms : List Node). tree_of ms id) (take-append-drop k ns)
 
 -- what making a node does
-module _ (ns : List Node) (n : Node) (new : List Node) (id : ℕ) (pool : IsPool ns) (fine : HasForm ns (length ns) n) (makes : Makes ns n new id) where
+module _ (ns : List Node) (n : Node) (new : List Node) (id : ℕ) (pool : IsPool ns) (fine : HasForm (trees_in ns) (length ns) n) (makes : Makes ns n new id) where
   pub IsPool-Makes : IsPool new
   IsPool-Makes = elim makes [
     | inl there ↦ subst IsPool (sym there.0) pool

@@ -1,3 +1,5 @@
 pub mod Part
+pub mod Counts
 pub mod Pool
+pub mod Free
 pub mod Copy

@@ -1,31 +1,17 @@
 -- A pool: nodes that are named by their places, each standing for a tree, no tree twice.
-use Rattle.std.specs.Prelude.{◌≡◌, ℕ, ◌<◌, ◌≤◌, ◌^◌, true, false, List, [], ◌∷◌, ◌++◌, Some, length, map, All, Contains, slice_get, ◌⊎◌}
+use Rattle.std.specs.Prelude.{◌≡◌, ℕ, ◌<◌, ◌≤◌, List, [], ◌∷◌, ◌++◌, Some, length, Contains, slice_get, ◌⊎◌}
 use Rattle.rz_rules.specs.declared.nodes.Node.{Node}
-use Rattle.rz_rules.specs.Form.{form, kid_sorts, is_numbered, is_named}
-use Rattle.rz_rules.specs.File.{IsName}
-use Rattle.rz_rules.specs.Tree.{Tree, sort_of, tree_of}
+use Rattle.rz_rules.specs.Tree.{Tree, HaveForms, tree_of}
 
 -- what contracts see of a pool: its nodes, in the order of their ids, and how many more are sure to find memory
 pub record Contents : Type 0 where
   pub nodes : List Node
   pub spare : ℕ
 
--- a node has the form of its kind: kids of these sorts, ids below a bound, and a number and a name where the kind has one
-pub record HasForm (nodes : List Node) (bound : ℕ) (node : Node) : Type 0 where
-  pub kids : All (λ id. id < bound) node.kids
-  pub sorts : map sort_of (map (tree_of nodes) node.kids) ≡ kid_sorts node.kind
-  pub number : node.number < 2 ^ 32
-  pub unnumbered : is_numbered (form node.kind).role ≡ false → node.number ≡ 0
-  pub unnamed : is_named (form node.kind).role ≡ false → node.name ≡ []
-  pub named : is_named (form node.kind).role ≡ true → IsName node.name
-
--- each node has its form, over the nodes before it
-abbrev pub HaveForms : List Node → Type 0
-HaveForms nodes = (id : ℕ) (node : Node) → slice_get nodes id ≡ Some node → HasForm nodes id node
-
 -- ids with equal trees are equal
 abbrev pub ShareTrees : List Node → Type 0
-ShareTrees nodes = (i j : ℕ) → i < length nodes → j < length nodes → tree_of nodes i ≡ tree_of nodes j → i ≡ j
+ShareTrees nodes =
+    (i j : ℕ) → i < length nodes → j < length nodes → tree_of nodes i ≡ tree_of nodes j → i ≡ j
 
 -- what every pool keeps
 pub record IsPool (nodes : List Node) : Type 0 where
@@ -43,7 +29,9 @@ KeepsTrees bound old new = (id : ℕ) → id < bound → tree_of new id ≡ tree
 
 -- the node has this id: it was there, or else it now stands last
 abbrev pub Makes : List Node → Node → List Node → ℕ → Type 0
-Makes old node new id = (new ≡ old) × (slice_get old id ≡ Some node) ⊎ (new ≡ old ++ node ∷ []) × (id ≡ length old) × ¬ (Contains old node)
+Makes old node new id =
+    (new ≡ old) × (slice_get old id ≡ Some node)
+    ⊎ (new ≡ old ++ node ∷ []) × (id ≡ length old) × ¬ (Contains old node)
 
 -- the old nodes keep their ids, and the tree of each new one is allowed
 pub record Adds (Allows : Tree → Type 0) (old new : List Node) : Type 0 where

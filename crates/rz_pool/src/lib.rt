@@ -1,10 +1,16 @@
-//! Shared trees: a pool keeps each different node once and names it by an id, so that equal ids are equal trees.
+//! Shared trees: a pool keeps each different node once and names it by an id, so that equal ids are
+//! equal trees.
 #![tactic(auto)]
 
 mod copies;
+mod counts;
 mod forms;
+mod free;
+mod keys;
 mod pool;
 
+pub use counts::Counts;
+pub use keys::HashKey;
 pub use pool::Pool;
 
 #[cfg(test)]

@@ -1,40 +1,61 @@
 //! Nodes that are kept once each.
 
 ghost use Rattle.std.specs.Prelude.{IsTrue, ◌≡◌, [], Some, ◌+◌, ◌<◌, ◌≤◌, ◌↔◌, ℕ, length, take, slice_get, Contains, IsOk, IfOk, OnOk, OnErr};
-ghost use Rattle.rz_rules.specs.Tree.{tree_of, tree_over, trees_in};
-ghost use Rattle.rz_pool.specs.Pool.{HasForm, IsPool, Grows, KeepsTrees, Makes};
+ghost use Rattle.rz_rules.specs.Tree.{HasForm, tree_of, tree_over, trees_in};
+ghost use Rattle.rz_rules.specs.Substitution.{NoneFrom};
+ghost use Rattle.rz_pool.specs.Free.{free_bound, IsBoundOf};
+ghost use Rattle.rz_pool.specs.Pool.{IsPool, Grows, Makes};
 
-use indexmap::IndexSet;
-use rz_rules::{Node, OutOfMemory};
+use crate::counts::Counts;
+use crate::keys::HashKey;
+use indexmap::IndexMap;
+use rz_rules::{Node, OutOfMemory, Space};
 use std::alloc::Global;
 use std::marker::Model;
 
 /// Nodes by their ids, which count up from 0 in the order in which the nodes were made.
 #[derive(Debug, Drop)]
 pub struct Pool {
-    nodes: IndexSet<Node>,
+    /// Each node, with the bounds of the free variables of its tree.
+    nodes: IndexMap<Node, Counts, HashKey>,
 }
 
 impl Model for Pool {
-    ghost use Rattle.indexmap.specs.IndexSet.{spare};
+    ghost use Rattle.indexmap.specs.IndexMap.{keys, values, spare};
     ghost use Rattle.rz_pool.specs.Pool.{Contents, IsPool};
+    ghost use Rattle.rz_pool.specs.Free.{HaveBounds};
 
     ghost Value = { Contents };
 
-    ghost view = { λ pool. record { nodes = pool.nodes.keys; spare = spare pool.nodes } };
+    ghost view = { λ pool. record { nodes = keys pool.nodes; spare = spare pool.nodes } };
 
-    ghost invariant = { λ pool. IsPool pool.nodes.keys };
+    ghost invariant = { λ pool. IsPool (keys pool.nodes)
+        × HaveBounds (keys pool.nodes) (values pool.nodes) };
 }
 
 impl Pool {
-    /// The empty pool, which grows in the given allocator.
+    /// The empty pool, which grows in the given allocator and hashes by a key that everybody knows.
     pub fn new(alloc: Global) -> Pool
         ensures empty { result.nodes ≡ [] }
         ensures pool { IsPool result.nodes }
     {
+        Pool::keyed(alloc, HashKey::KNOWN)
+    }
+
+    /// The empty pool, which grows in the given allocator and hashes by this key. No answer depends
+    /// on the key.
+    pub fn keyed(alloc: Global, key: HashKey) -> Pool
+        ensures empty { result.nodes ≡ [] }
+        ensures pool { IsPool result.nodes }
+    {
         Pool {
-            nodes: IndexSet::new(alloc),
+            nodes: IndexMap::with_hasher(alloc, key),
         }
+    }
+
+    /// The key by which the pool hashes, for tables that are filled with ids of it.
+    pub fn hash_key(&self) -> HashKey {
+        *self.nodes.hasher()
     }
 
     /// The allocator in which the pool grows.
@@ -42,13 +63,16 @@ impl Pool {
         *self.nodes.allocator()
     }
 
-    /// The id of a node in this pool: that of the equal node where there is one, else a new last one.
+    /// The id of a node in this pool: that of the equal node where there is one, else a new last
+    /// one.
     ///
-    /// Its kids are ids of this pool. `accepts` tells whether a node has the form that is asked for.
+    /// Its kids are ids of this pool. `accepts` tells whether a node has the form that is asked
+    /// for.
     pub fn make(&mut self, node: Node) -> Result<u64, OutOfMemory>
-        requires { HasForm self.old.nodes (length self.old.nodes) node }
+        requires { HasForm (trees_in self.old.nodes) (length self.old.nodes) node }
         ensures makes { IfOk result (Makes self.old.nodes node self.new.nodes) }
-        ensures tree { IfOk result (λ id. tree_of self.new.nodes id ≡ tree_over (trees_in self.old.nodes) node) }
+        ensures tree { IfOk result (λ id. tree_of self.new.nodes id
+            ≡ tree_over (trees_in self.old.nodes) node) }
         ensures within { IfOk result (λ id. id < length self.new.nodes) }
 
         // A refusal changes nothing, and only a new node is refused.
@@ -60,10 +84,10 @@ impl Pool {
         ensures spare { self.old.spare ≤ self.new.spare + 1 }
 
         ensures grows { Grows self.old.nodes self.new.nodes }
-        ensures kept { KeepsTrees (length self.old.nodes) self.old.nodes self.new.nodes }
         ensures pool { IsPool self.new.nodes }
     {
-        let (id, _) = self.nodes.insert_full(node)?;
+        let bounds = self.bounds_of(&node);
+        let (id, _) = self.nodes.insert_full(node, bounds)?;
         Ok(id as u64)
     }
 
@@ -72,10 +96,35 @@ impl Pool {
         requires { id < length self.now.nodes }
         ensures node { slice_get self.now.nodes id ≡ Some result.now }
         ensures tree { tree_of self.now.nodes id ≡ tree_over (trees_in self.now.nodes) result.now }
-        ensures form { HasForm self.now.nodes id result.now }
+        ensures form { HasForm (trees_in self.now.nodes) id result.now }
         ensures pool { IsPool self.now.nodes }
     {
-        &self.nodes.as_slice()[id as usize]
+        match self.nodes.get_index(id as usize) {
+            Some((node, _)) => node,
+            None => unreachable!(),
+        }
+    }
+
+    /// The bounds of the free variables of a tree.
+    pub(crate) fn bounds(&self, id: u64) -> Counts
+        requires { id < length self.now.nodes }
+        ensures bounds { IsBoundOf (tree_of self.now.nodes id) result }
+        ensures pool { IsPool self.now.nodes }
+    {
+        self.nodes[id as usize]
+    }
+
+    /// The least index from which the tree of an id has no free variable of a space.
+    ///
+    /// It is one more than the greatest index of a free variable, and 0 where there is none.
+    pub fn free_bound(&self, space: Space, id: u64) -> u64
+        requires { id < length self.now.nodes }
+        ensures value { result ≡ free_bound space (tree_of self.now.nodes id) }
+        ensures least { (limit : ℕ)
+            → NoneFrom space limit (tree_of self.now.nodes id) ↔ (result ≤ limit) }
+        ensures pool { IsPool self.now.nodes }
+    {
+        self.bounds(id).of(space)
     }
 
     /// Whether two ids stand for one tree: they do exactly where they are equal.
@@ -90,7 +139,8 @@ impl Pool {
     /// How many nodes there are: the ids are the numbers below it.
     pub fn len(&self) -> u64
         ensures len { result ≡ length self.now.nodes }
-        ensures trees { (i j : ℕ) → i < result → j < result → (tree_of self.now.nodes i ≡ tree_of self.now.nodes j) ↔ (i ≡ j) }
+        ensures trees { (i j : ℕ) → i < result → j < result
+            → (tree_of self.now.nodes i ≡ tree_of self.now.nodes j) ↔ (i ≡ j) }
         ensures pool { IsPool self.now.nodes }
     {
         self.nodes.len() as u64
@@ -108,7 +158,6 @@ impl Pool {
     pub fn release(&mut self, mark: u64)
         requires { mark ≤ length self.old.nodes }
         ensures nodes { self.new.nodes ≡ take mark self.old.nodes }
-        ensures kept { KeepsTrees mark self.old.nodes self.new.nodes }
         ensures spare { self.old.spare ≤ self.new.spare }
         ensures pool { IsPool self.new.nodes }
     {

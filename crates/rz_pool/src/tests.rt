@@ -1,5 +1,5 @@
-use crate::Pool;
-use rz_rules::{Kids, Kind, Name, Node};
+use crate::{HashKey, Pool};
+use rz_rules::{Kids, Kind, Name, Node, Space};
 use std::alloc::Global;
 use std::process::Abort;
 use std::test::Fail;
@@ -52,6 +52,20 @@ const NAMED: &[(Row, u64)] = &[
     ((Kind::Constant, 0, "a", &[0, 0]), 3),
     ((Kind::Postulate, 0, "Σ-a", &[0]), 4),
 ];
+
+/// Nodes of which some have free term variables, with their ids.
+const OPEN: &[(Row, u64)] = &[
+    ((Kind::TermVariable, 3, "", &[]), 0),
+    ((Kind::TermVariable, 0, "", &[]), 1),
+    ((Kind::Universe, 0, "", &[]), 2),
+    ((Kind::Pi, 0, "", &[0, 0]), 3),
+    ((Kind::Pi, 0, "", &[2, 1]), 4),
+    ((Kind::Pi, 0, "", &[2, 0]), 5),
+    ((Kind::Constant, 0, "a", &[0, 0]), 6),
+];
+
+/// For each of these ids the least index from which its tree has no free term variable.
+const BOUNDS: &[u64] = &[4, 1, 0, 4, 0, 3, 0];
 
 /// The node of a row.
 fn node(rt: &impl Abort, alloc: Global, row: Row) -> Result<Node, Fail> {
@@ -184,5 +198,25 @@ fn names_tell_nodes_apart(rt: HostRuntime) -> Result<(), Fail> {
     add_all(&rt, alloc, &mut pool, NAMED)?;
     assert_eq!(rt; pool.len(), 5);
     assert!(rt; pool.are_same(1, 1) && !pool.are_same(1, 2));
+    Ok(())
+}
+
+#[test]
+fn free_variables(rt: HostRuntime) -> Result<(), Fail> {
+    let alloc = rt.alloc();
+    let key = HashKey {
+        first: 1,
+        second: 2,
+    };
+    let mut pool = Pool::keyed(alloc, key);
+    add_all(&rt, alloc, &mut pool, OPEN)?;
+    assert_eq!(rt; pool.hash_key().second, 2);
+    let mut id = 0;
+    for bound in BOUNDS {
+        assert!(rt; id < pool.len());
+        assert_eq!(rt; pool.free_bound(Space::Terms, id), *bound);
+        assert_eq!(rt; pool.free_bound(Space::Points, id), 0);
+        id += 1;
+    }
     Ok(())
 }

@@ -1,7 +1,11 @@
 -- An item of a table is found by its word.
-use Rattle.std.proofs.Common.{◌≡◌, ℕ, ◌+◌, ◌<◌, ◌≤◌, true, cond, List, ◌∷◌, Option, Some, None, length, get_or, drop, sym, ap, ◌∙◌}
+use Rattle.std.proofs.Common.{◌≡◌, ℕ, ◌+◌, ◌<◌, ◌≤◌, true, cond, List, ◌∷◌, Option, Some, None, length, get_or, drop, refl, sym, ap, ◌∙◌}
 use Rattle.std.specs.Prelude.{find}
 use Rattle.std.specs.Str.{bytes_eq}
+use Rattle.rz_rules.specs.declared.rows.Row.{Row}
+use Rattle.rz_rules.specs.declared.rows.Row.TheVariants as row
+use Rattle.rz_rules.specs.Table.{rule_of}
+use Rattle.rz_rules.specs.Text.{IsText}
 use Rattle.std.proofs.lemmas.List.{at_drop_more, at_drop_all}
 
 -- the first item with a word
@@ -28,3 +32,8 @@ found_at word_of items word i x lt is same rest =
 pub found_none : {X : Type 0} (word_of : X → List ℕ) (items : List X) (word : List ℕ) (i : ℕ)
     → length items ≤ i → with_word word_of word (drop i items) ≡ with_word word_of word items → with_word word_of word items ≡ None
 found_none word_of items word i le rest = sym rest ∙ at_drop_all (with_word word_of word) items i le
+
+-- each text of the table is complete and of the right sorts
+pub rows_are_texts : (row : Row) → IsText (rule_of row).text
+rows_are_texts row.ContextNil = refl
+rows_are_texts row = refl

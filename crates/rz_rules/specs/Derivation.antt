@@ -1,15 +1,16 @@
 -- When a line follows.
 use Rattle.std.specs.Prelude.{◌≡◌, ℕ, ◌≤◌, List, [], ◌∷◌, ◌++◌, All, Some, map, slice_get}
-use Rattle.rz_rules.specs.declared.kinds.Head.{Head}
-use Rattle.rz_rules.specs.declared.kinds.Head.TheVariants.{Formed, Holds}
+use Rattle.rz_rules.specs.declared.judgments.JudgmentKind.{JudgmentKind}
+use Rattle.rz_rules.specs.declared.judgments.JudgmentKind.TheVariants.{Holds}
+use Rattle.rz_rules.specs.declared.symbols.Condition.{Condition}
+use Rattle.rz_rules.specs.declared.symbols.Condition.TheVariants.{FewLeaves, TopeOver, PointOf}
 use Rattle.rz_rules.specs.declared.rows.Row.{Row}
-use Rattle.rz_rules.specs.declared.rows.Condition.{Condition}
-use Rattle.rz_rules.specs.declared.rows.Condition.TheVariants.{FewLeaves, Over}
 use Rattle.rz_rules.specs.Tree.{Tree}
-use Rattle.rz_rules.specs.Tope.{leaves, cubes_of, IsOver}
-use Rattle.rz_rules.specs.Judgment.{Statement}
-use Rattle.rz_rules.specs.Row.{spelled}
-use Rattle.rz_rules.specs.Table.{text_of, conditions_of}
+use Rattle.rz_rules.specs.Cube.{binders_of, leaves}
+use Rattle.rz_rules.specs.Tope.{IsPointOf, IsTopeOver}
+use Rattle.rz_rules.specs.Judgment.{Statement, IsStatement}
+use Rattle.rz_rules.specs.Row.{Assignment, IsInstance}
+use Rattle.rz_rules.specs.Table.{Rule, rule_of}
 
 -- a line over trees
 pub record Step : Type 0 where
@@ -18,24 +19,31 @@ pub record Step : Type 0 where
   pub says : Statement
   pub from : List ℕ
 
--- a tope that is said to hold is over its context
-abbrev pub IsScoped : Head → List Tree → Type 0
-IsScoped Formed parts = Unit {0}
-IsScoped Holds (context ∷ tope ∷ []) = IsOver (cubes_of context) tope
-IsScoped Holds other = ⊥
+-- in a judgment that a tope holds, the tope is over the context
+abbrev pub IsScoped : JudgmentKind → Tree → List Tree → Type 0
+IsScoped Holds context parts = All (IsTopeOver (binders_of context)) parts
+IsScoped kind context parts = Unit {0}
 
 -- what a condition asks of the trees of the letters
-abbrev pub IsMet : (ℕ → Tree) → Condition → Type 0
-IsMet letters (FewLeaves cube) = leaves (letters cube) ≤ 64
-IsMet letters (Over context tope) = IsOver (cubes_of (letters context)) (letters tope)
+abbrev pub IsMet : Assignment → Condition → Type 0
+IsMet assignment (FewLeaves cube) = leaves (assignment.letters cube.number) ≤ 64
+IsMet assignment (TopeOver context tope) =
+    IsTopeOver (binders_of (assignment.letters context.number)) (assignment.letters tope.number)
+IsMet assignment (PointOf context cube point) =
+    IsPointOf (binders_of (assignment.letters context.number)) (assignment.letters cube.number) (assignment.letters point.number)
 
--- the line follows by its row from the earlier ones that it names: for some trees in the place of the letters, which
--- meet the row's conditions, the row's text spells these premises and then what the line says
+-- For some trees in the place of its letters, which meet the rule's conditions, the rule's text spells the premises and
+-- then the conclusion. No rule of the table uses the line's number, which is 0.
+pub record Applies (rule : Rule) (number : ℕ) (premises : List Statement) (conclusion : Statement) : Type 0 where
+  pub unused : number ≡ 0
+  pub assignment : Assignment
+  pub instance : IsInstance rule.text assignment (premises ++ conclusion ∷ [])
+  pub conditions : All (IsMet assignment) rule.conditions
+
+-- the line says something of trees, and follows by its row's rule from the earlier ones that it names
 pub record Follows (earlier : List Statement) (step : Step) : Type 0 where
-  pub number : step.number ≡ 0
+  pub trees : IsStatement step.says
+  pub scoped : IsScoped step.says.kind step.says.context step.says.parts
   pub premises : List Statement
-  pub from : map (slice_get earlier) step.from ≡ map (λ s. Some s) premises
-  pub letters : ℕ → Tree
-  pub instance : spelled (text_of step.row) letters ≡ record { trees = []; statements = premises ++ step.says ∷ [] }
-  pub conditions : All (IsMet letters) (conditions_of step.row)
-  pub scoped : IsScoped step.says.head step.says.parts
+  pub from : map (slice_get earlier) step.from ≡ map (λ says. Some says) premises
+  pub applies : Applies (rule_of step.row) step.number premises step.says

@@ -1,10 +1,13 @@
+pub mod Name
 pub mod Form
 pub mod Kids
 pub mod Tree
 pub mod Substitution
+pub mod Cube
 pub mod Tope
 pub mod Judgment
-pub mod Table
 pub mod Row
+pub mod Text
+pub mod Table
 pub mod Derivation
 pub mod File

@@ -1,48 +1,134 @@
--- The row table: the text of each row, its conditions, and its word in a derivation file.
-use Rattle.std.specs.Prelude.{◌≡◌, ℕ, List, [], ◌∷◌, Some, find, codes, refl}
+-- The row table: the rule of each row.
+use Rattle.std.specs.Prelude.{◌≡◌, ℕ, List, Some, find, refl}
 use Rattle.std.specs.Str.{bytes_eq}
-use Rattle.rz_rules.specs.declared.rows.Symbol.{Symbol}
-use Rattle.rz_rules.specs.declared.rows.Condition.{Condition}
+use Rattle.std.specs.Borrow.{Bor}
+use Rattle.rz_rules.specs.declared.symbols.Symbol.{Symbol}
+use Rattle.rz_rules.specs.declared.symbols.Condition.{Condition}
 use Rattle.rz_rules.specs.declared.rows.Row.{Row}
-use Rattle.rz_rules.specs.declared.rows.Row.TheVariants.{FormNil, FormCube, FormTope, TopHolds, ZeroAtMost, AtMostOne, AtMostTotal, AtMostTransitive}
+use Rattle.rz_rules.specs.declared.rows.Row.TheVariants as row
 use Rattle.rz_rules.specs.declared.rows.TheConstants as table
+use Rattle.rz_rules.specs.declared.rows.contexts.TheConstants as contexts
+use Rattle.rz_rules.specs.declared.rows.topes.TheConstants as topes
+use Rattle.rz_rules.specs.declared.rows.typing.TheConstants as typing
+use Rattle.rz_rules.specs.declared.rows.congruence.TheConstants as congruence
+use Rattle.rz_rules.specs.declared.rows.computation.TheConstants as computation
+use Rattle.rz_rules.specs.declared.rows.structural.TheConstants as structural
 
--- the premises and then the conclusion, in prefix notation
-abbrev pub text_of : Row → List Symbol
-text_of FormNil = table.FORM_NIL.now
-text_of FormCube = table.FORM_CUBE.now
-text_of FormTope = table.FORM_TOPE.now
-text_of TopHolds = table.TOP_HOLDS.now
-text_of ZeroAtMost = table.ZERO_AT_MOST.now
-text_of AtMostOne = table.AT_MOST_ONE.now
-text_of AtMostTotal = table.AT_MOST_TOTAL.now
-text_of AtMostTransitive = table.AT_MOST_TRANSITIVE.now
+-- a rule: its word in a derivation file, its premises and then its conclusion in prefix notation, and its conditions
+pub record Rule : Type 0 where
+  pub word : List ℕ
+  pub text : List Symbol
+  pub conditions : List Condition
 
--- what a row asks beside its premises
-abbrev pub conditions_of : Row → List Condition
-conditions_of FormNil = []
-conditions_of FormCube = table.FORM_CUBE_CONDITIONS.now
-conditions_of FormTope = table.FORM_TOPE_CONDITIONS.now
-conditions_of TopHolds = []
-conditions_of ZeroAtMost = []
-conditions_of AtMostOne = []
-conditions_of AtMostTotal = []
-conditions_of AtMostTransitive = []
+-- the code answers this rule
+pub record IsRule (rule : Rule) (entry : Bor (List ℕ) × Bor (List Symbol) × Bor (List Condition)) : Type 0 where
+  pub word : entry.0.now ≡ rule.word
+  pub text : entry.1.now ≡ rule.text
+  pub conditions : entry.2.now ≡ rule.conditions
 
+-- an entry of the code's table as a rule
+abbrev pub rule : record { now : List ℕ } × record { now : List Symbol } × record { now : List Condition } → Rule
+rule entry = record { word = entry.0.now; text = entry.1.now; conditions = entry.2.now }
+
+-- the rule of each row
+abbrev pub rule_of : Row → Rule
+rule_of row.ContextNil = rule contexts.CONTEXT_NIL_RULE
+rule_of row.ContextCube = rule contexts.CONTEXT_CUBE_RULE
+rule_of row.ContextTope = rule contexts.CONTEXT_TOPE_RULE
+rule_of row.ContextTerm = rule contexts.CONTEXT_TERM_RULE
+rule_of row.Top = rule topes.TOP_RULE
+rule_of row.Bottom = rule topes.BOTTOM_RULE
+rule_of row.And = rule topes.AND_RULE
+rule_of row.AndLeft = rule topes.AND_LEFT_RULE
+rule_of row.AndRight = rule topes.AND_RIGHT_RULE
+rule_of row.OrLeft = rule topes.OR_LEFT_RULE
+rule_of row.OrRight = rule topes.OR_RIGHT_RULE
+rule_of row.OrElimination = rule topes.OR_ELIMINATION_RULE
+rule_of row.EqualReflexive = rule topes.EQUAL_REFLEXIVE_RULE
+rule_of row.EqualSymmetric = rule topes.EQUAL_SYMMETRIC_RULE
+rule_of row.EqualTransitive = rule topes.EQUAL_TRANSITIVE_RULE
+rule_of row.EqualFirst = rule topes.EQUAL_FIRST_RULE
+rule_of row.EqualSecond = rule topes.EQUAL_SECOND_RULE
+rule_of row.EqualEta = rule topes.EQUAL_ETA_RULE
+rule_of row.EqualOne = rule topes.EQUAL_ONE_RULE
+rule_of row.EqualPair = rule topes.EQUAL_PAIR_RULE
+rule_of row.EqualLeft = rule topes.EQUAL_LEFT_RULE
+rule_of row.EqualRight = rule topes.EQUAL_RIGHT_RULE
+rule_of row.AtMostEqual = rule topes.AT_MOST_EQUAL_RULE
+rule_of row.AtMostTransitive = rule topes.AT_MOST_TRANSITIVE_RULE
+rule_of row.AtMostAntisymmetric = rule topes.AT_MOST_ANTISYMMETRIC_RULE
+rule_of row.AtMostTotal = rule topes.AT_MOST_TOTAL_RULE
+rule_of row.ZeroAtMost = rule topes.ZERO_AT_MOST_RULE
+rule_of row.AtMostOne = rule topes.AT_MOST_ONE_RULE
+rule_of row.ZeroIsNotOne = rule topes.ZERO_IS_NOT_ONE_RULE
+rule_of row.Universe = rule typing.UNIVERSE_RULE
+rule_of row.Constant = rule typing.CONSTANT_RULE
+rule_of row.Postulate = rule typing.POSTULATE_RULE
+rule_of row.Pi = rule typing.PI_RULE
+rule_of row.Sigma = rule typing.SIGMA_RULE
+rule_of row.Lambda = rule typing.LAMBDA_RULE
+rule_of row.Application = rule typing.APPLICATION_RULE
+rule_of row.Pair = rule typing.PAIR_RULE
+rule_of row.First = rule typing.FIRST_RULE
+rule_of row.Second = rule typing.SECOND_RULE
+rule_of row.Identity = rule typing.IDENTITY_RULE
+rule_of row.Reflexivity = rule typing.REFLEXIVITY_RULE
+rule_of row.IdentityInduction = rule typing.IDENTITY_INDUCTION_RULE
+rule_of row.UnitType = rule typing.UNIT_TYPE_RULE
+rule_of row.Star = rule typing.STAR_RULE
+rule_of row.Extension = rule typing.EXTENSION_RULE
+rule_of row.ExtensionLambda = rule typing.EXTENSION_LAMBDA_RULE
+rule_of row.ExtensionApplication = rule typing.EXTENSION_APPLICATION_RULE
+rule_of row.RecOr = rule typing.REC_OR_RULE
+rule_of row.RecBottom = rule typing.REC_BOTTOM_RULE
+rule_of row.Conversion = rule typing.CONVERSION_RULE
+rule_of row.SameReflexive = rule congruence.SAME_REFLEXIVE_RULE
+rule_of row.SameSymmetric = rule congruence.SAME_SYMMETRIC_RULE
+rule_of row.SameTransitive = rule congruence.SAME_TRANSITIVE_RULE
+rule_of row.SameConversion = rule congruence.SAME_CONVERSION_RULE
+rule_of row.PiCongruence = rule congruence.PI_CONGRUENCE_RULE
+rule_of row.SigmaCongruence = rule congruence.SIGMA_CONGRUENCE_RULE
+rule_of row.LambdaCongruence = rule congruence.LAMBDA_CONGRUENCE_RULE
+rule_of row.ApplicationCongruence = rule congruence.APPLICATION_CONGRUENCE_RULE
+rule_of row.PairCongruence = rule congruence.PAIR_CONGRUENCE_RULE
+rule_of row.FirstCongruence = rule congruence.FIRST_CONGRUENCE_RULE
+rule_of row.SecondCongruence = rule congruence.SECOND_CONGRUENCE_RULE
+rule_of row.IdentityCongruence = rule congruence.IDENTITY_CONGRUENCE_RULE
+rule_of row.ReflexivityCongruence = rule congruence.REFLEXIVITY_CONGRUENCE_RULE
+rule_of row.IdentityInductionCongruence = rule congruence.IDENTITY_INDUCTION_CONGRUENCE_RULE
+rule_of row.ExtensionCongruence = rule congruence.EXTENSION_CONGRUENCE_RULE
+rule_of row.ExtensionLambdaCongruence = rule congruence.EXTENSION_LAMBDA_CONGRUENCE_RULE
+rule_of row.ExtensionApplicationCongruence = rule congruence.EXTENSION_APPLICATION_CONGRUENCE_RULE
+rule_of row.RecOrCongruence = rule congruence.REC_OR_CONGRUENCE_RULE
+rule_of row.RecBottomCongruence = rule congruence.REC_BOTTOM_CONGRUENCE_RULE
+rule_of row.Beta = rule computation.BETA_RULE
+rule_of row.Eta = rule computation.ETA_RULE
+rule_of row.FirstBeta = rule computation.FIRST_BETA_RULE
+rule_of row.SecondBeta = rule computation.SECOND_BETA_RULE
+rule_of row.PairEta = rule computation.PAIR_ETA_RULE
+rule_of row.IdentityInductionBeta = rule computation.IDENTITY_INDUCTION_BETA_RULE
+rule_of row.UnitEta = rule computation.UNIT_ETA_RULE
+rule_of row.Delta = rule computation.DELTA_RULE
+rule_of row.ExtensionBeta = rule computation.EXTENSION_BETA_RULE
+rule_of row.ExtensionEta = rule computation.EXTENSION_ETA_RULE
+rule_of row.Face = rule computation.FACE_RULE
+rule_of row.RecOrLeft = rule computation.REC_OR_LEFT_RULE
+rule_of row.RecOrRight = rule computation.REC_OR_RIGHT_RULE
+rule_of row.RecOrEta = rule computation.REC_OR_ETA_RULE
+rule_of row.RecBottomEta = rule computation.REC_BOTTOM_ETA_RULE
+rule_of row.PointReplacement = rule computation.POINT_REPLACEMENT_RULE
+rule_of row.TypeOf = rule structural.TYPE_OF_RULE
+rule_of row.LeftSide = rule structural.LEFT_SIDE_RULE
+rule_of row.RightSide = rule structural.RIGHT_SIDE_RULE
+
+-- the word of a row in a derivation file
 abbrev pub word_of_row : Row → List ℕ
-word_of_row FormNil = codes "ctx-nil"
-word_of_row FormCube = codes "ctx-cube"
-word_of_row FormTope = codes "ctx-tope"
-word_of_row TopHolds = codes "top"
-word_of_row ZeroAtMost = codes "le-zero"
-word_of_row AtMostOne = codes "le-one"
-word_of_row AtMostTotal = codes "le-total"
-word_of_row AtMostTransitive = codes "le-trans"
+word_of_row row = (rule_of row).word
 
 abbrev pub all_rows : List Row
-all_rows = FormNil ∷ FormCube ∷ FormTope ∷ TopHolds ∷ ZeroAtMost ∷ AtMostOne ∷ AtMostTotal ∷ AtMostTransitive ∷ []
+all_rows = table.ROWS.now
 
--- no two rows have one word
-pub rows_found_again : (row : Row) → find (λ other. bytes_eq (word_of_row other) (word_of_row row)) all_rows ≡ Some row
-rows_found_again FormNil = refl
-rows_found_again row = refl
+-- no two rows have one word, and none is left out
+pub row_words_are_distinct : (row : Row) → find (λ other. bytes_eq (word_of_row other) (word_of_row row)) all_rows ≡ Some row
+row_words_are_distinct row.ContextNil = refl
+row_words_are_distinct row = refl

@@ -1,9 +1,7 @@
 //! The node table: the kinds of nodes, and what each is made of.
 
-ghost use Rattle.std.specs.Prelude.{◌≡◌, [], map};
-ghost use Rattle.rz_rules.specs.declared.kinds.Sort.TheVariants.{Term};
-ghost use Rattle.rz_rules.specs.declared.kinds.Role.TheVariants.{Variable, Declared, Former};
-ghost use Rattle.rz_rules.specs.Form.{form, IsForm, word_of_kind, word_of_head, all_kinds, all_heads, parts_of_head, is_numbered, is_named, bound, kinds_found_again, heads_found_again};
+ghost use Rattle.std.specs.Prelude.{◌≡◌};
+ghost use Rattle.rz_rules.specs.Form.{form, IsEntry, IsForm, word_of_kind, all_kinds, is_numbered, is_named, bound, kind_words_are_distinct};
 
 use crate::words::Worded;
 
@@ -227,104 +225,187 @@ const X_TERM: Slot = Slot {
     terms: 1,
 };
 
-/// A node of a sort, with neither number nor name.
-fn former(sort: Sort, word: &'static str, kids: &'static [Slot]) -> Form
-    ensures { IsForm (record { word = word.now; sort = sort; kids = kids.now; role = Former }) result }
-{
-    Form {
-        word,
-        sort,
-        kids,
-        role: Role::Former,
-    }
-}
+/// A row of the node table: the word, the sort, the places of the kids, and what the number and the name are.
+pub type Entry = (&'static str, Sort, &'static [Slot], Role);
 
-/// A variable of a space.
-fn variable(space: Space, sort: Sort, word: &'static str) -> Form
-    ensures { IsForm (record { word = word.now; sort = sort; kids = []; role = Variable space }) result }
-{
-    Form {
-        word,
-        sort,
-        kids: &[],
-        role: Role::Variable(space),
-    }
-}
+pub const CUBE_ONE: Entry = ("c1", Sort::Cube, &[], Role::Former);
 
-/// A term with a name and closed kids.
-fn declared(word: &'static str, kids: &'static [Slot]) -> Form
-    ensures { IsForm (record { word = word.now; sort = Term; kids = kids.now; role = Declared }) result }
-{
-    Form {
-        word,
-        sort: Sort::Term,
-        kids,
-        role: Role::Declared,
-    }
-}
+pub const CUBE_TWO: Entry = ("c2", Sort::Cube, &[], Role::Former);
+
+pub const PRODUCT: Entry = ("cx", Sort::Cube, &[CUBE, CUBE], Role::Former);
+
+pub const POINT_VARIABLE: Entry = ("pv", Sort::Point, &[], Role::Variable(Space::Points));
+
+pub const ONLY_POINT: Entry = ("pstar", Sort::Point, &[], Role::Former);
+
+pub const ZERO: Entry = ("p0", Sort::Point, &[], Role::Former);
+
+pub const ONE: Entry = ("p1", Sort::Point, &[], Role::Former);
+
+pub const POINT_PAIR: Entry = ("pp", Sort::Point, &[POINT, POINT], Role::Former);
+
+pub const POINT_LEFT: Entry = ("pl", Sort::Point, &[POINT], Role::Former);
+
+pub const POINT_RIGHT: Entry = ("pr", Sort::Point, &[POINT], Role::Former);
+
+pub const TOP: Entry = ("ttop", Sort::Tope, &[], Role::Former);
+
+pub const BOTTOM: Entry = ("tbot", Sort::Tope, &[], Role::Former);
+
+pub const CONJUNCTION: Entry = ("tand", Sort::Tope, &[TOPE, TOPE], Role::Former);
+
+pub const DISJUNCTION: Entry = ("tor", Sort::Tope, &[TOPE, TOPE], Role::Former);
+
+pub const EQUAL_POINTS: Entry = ("teq", Sort::Tope, &[CUBE, POINT, POINT], Role::Former);
+
+pub const AT_MOST: Entry = ("tle", Sort::Tope, &[POINT, POINT], Role::Former);
+
+pub const UNIVERSE: Entry = ("U", Sort::Term, &[], Role::Former);
+
+pub const TERM_VARIABLE: Entry = ("v", Sort::Term, &[], Role::Variable(Space::Terms));
+
+pub const CONSTANT: Entry = ("const", Sort::Term, &[TERM, TERM], Role::Declared);
+
+pub const POSTULATE: Entry = ("post", Sort::Term, &[TERM], Role::Declared);
+
+pub const PI: Entry = ("pi", Sort::Term, &[TERM, X_TERM], Role::Former);
+
+pub const LAMBDA: Entry = ("lam", Sort::Term, &[TERM, X_TERM, X_TERM], Role::Former);
+
+pub const APPLICATION: Entry = ("app", Sort::Term, &[TERM, X_TERM, TERM, TERM], Role::Former);
+
+pub const SIGMA: Entry = ("sig", Sort::Term, &[TERM, X_TERM], Role::Former);
+
+pub const PAIR: Entry = (
+    "pair",
+    Sort::Term,
+    &[TERM, X_TERM, TERM, TERM],
+    Role::Former,
+);
+
+pub const FIRST: Entry = ("fst", Sort::Term, &[TERM, X_TERM, TERM], Role::Former);
+
+pub const SECOND: Entry = ("snd", Sort::Term, &[TERM, X_TERM, TERM], Role::Former);
+
+pub const IDENTITY: Entry = ("id", Sort::Term, &[TERM, TERM, TERM], Role::Former);
+
+pub const REFLEXIVITY: Entry = ("refl", Sort::Term, &[TERM, TERM], Role::Former);
+
+pub const IDENTITY_INDUCTION: Entry = (
+    "J",
+    Sort::Term,
+    &[TERM, TERM, TERM, TERM, TERM, TERM],
+    Role::Former,
+);
+
+pub const UNIT_TYPE: Entry = ("unit", Sort::Term, &[], Role::Former);
+
+pub const STAR: Entry = ("star", Sort::Term, &[], Role::Former);
+
+pub const EXTENSION: Entry = (
+    "ext",
+    Sort::Term,
+    &[CUBE, T_TOPE, T_TERM, T_TOPE, T_TERM],
+    Role::Former,
+);
+
+pub const EXTENSION_LAMBDA: Entry = (
+    "xlam",
+    Sort::Term,
+    &[CUBE, T_TOPE, T_TERM, T_TOPE, T_TERM, T_TERM],
+    Role::Former,
+);
+
+pub const EXTENSION_APPLICATION: Entry = (
+    "xapp",
+    Sort::Term,
+    &[CUBE, T_TOPE, T_TERM, T_TOPE, T_TERM, TERM, POINT],
+    Role::Former,
+);
+
+pub const REC_OR: Entry = (
+    "rec",
+    Sort::Term,
+    &[TERM, TOPE, TOPE, TERM, TERM],
+    Role::Former,
+);
+
+pub const REC_BOTTOM: Entry = ("abort", Sort::Term, &[TERM], Role::Former);
+
+pub const EMPTY_CONTEXT: Entry = ("nil", Sort::Context, &[], Role::Former);
+
+pub const CUBE_ENTRY: Entry = ("xcube", Sort::Context, &[CONTEXT, CUBE], Role::Former);
+
+pub const TOPE_ENTRY: Entry = ("xtope", Sort::Context, &[CONTEXT, TOPE], Role::Former);
+
+pub const TERM_ENTRY: Entry = ("xterm", Sort::Context, &[CONTEXT, TERM], Role::Former);
 
 impl Kind {
     /// What a node of this kind is made of.
     pub fn form(self) -> Form
         ensures { IsForm (form self) result }
     {
+        let (word, sort, kids, role) = self.entry();
+        Form {
+            word,
+            sort,
+            kids,
+            role,
+        }
+    }
+
+    /// The row of this kind in the node table.
+    fn entry(self) -> Entry
+        ensures { IsEntry (form self) result }
+    {
         match self {
-            Kind::CubeOne => former(Sort::Cube, "c1", &[]),
-            Kind::CubeTwo => former(Sort::Cube, "c2", &[]),
-            Kind::Product => former(Sort::Cube, "cx", &[CUBE, CUBE]),
-            Kind::PointVariable => variable(Space::Points, Sort::Point, "pv"),
-            Kind::OnlyPoint => former(Sort::Point, "pstar", &[]),
-            Kind::Zero => former(Sort::Point, "p0", &[]),
-            Kind::One => former(Sort::Point, "p1", &[]),
-            Kind::PointPair => former(Sort::Point, "pp", &[POINT, POINT]),
-            Kind::PointLeft => former(Sort::Point, "pl", &[POINT]),
-            Kind::PointRight => former(Sort::Point, "pr", &[POINT]),
-            Kind::Top => former(Sort::Tope, "ttop", &[]),
-            Kind::Bottom => former(Sort::Tope, "tbot", &[]),
-            Kind::Conjunction => former(Sort::Tope, "tand", &[TOPE, TOPE]),
-            Kind::Disjunction => former(Sort::Tope, "tor", &[TOPE, TOPE]),
-            Kind::EqualPoints => former(Sort::Tope, "teq", &[CUBE, POINT, POINT]),
-            Kind::AtMost => former(Sort::Tope, "tle", &[POINT, POINT]),
-            Kind::Universe => former(Sort::Term, "U", &[]),
-            Kind::TermVariable => variable(Space::Terms, Sort::Term, "v"),
-            Kind::Constant => declared("const", &[TERM, TERM]),
-            Kind::Postulate => declared("post", &[TERM]),
-            Kind::Pi => former(Sort::Term, "pi", &[TERM, X_TERM]),
-            Kind::Lambda => former(Sort::Term, "lam", &[TERM, X_TERM, X_TERM]),
-            Kind::Application => former(Sort::Term, "app", &[TERM, X_TERM, TERM, TERM]),
-            Kind::Sigma => former(Sort::Term, "sig", &[TERM, X_TERM]),
-            Kind::Pair => former(Sort::Term, "pair", &[TERM, X_TERM, TERM, TERM]),
-            Kind::First => former(Sort::Term, "fst", &[TERM, X_TERM, TERM]),
-            Kind::Second => former(Sort::Term, "snd", &[TERM, X_TERM, TERM]),
-            Kind::Identity => former(Sort::Term, "id", &[TERM, TERM, TERM]),
-            Kind::Reflexivity => former(Sort::Term, "refl", &[TERM, TERM]),
-            Kind::IdentityInduction => {
-                former(Sort::Term, "J", &[TERM, TERM, TERM, TERM, TERM, TERM])
-            }
-            Kind::UnitType => former(Sort::Term, "unit", &[]),
-            Kind::Star => former(Sort::Term, "star", &[]),
-            Kind::Extension => former(Sort::Term, "ext", &[CUBE, T_TOPE, T_TERM, T_TOPE, T_TERM]),
-            Kind::ExtensionLambda => former(
-                Sort::Term,
-                "xlam",
-                &[CUBE, T_TOPE, T_TERM, T_TOPE, T_TERM, T_TERM],
-            ),
-            Kind::ExtensionApplication => former(
-                Sort::Term,
-                "xapp",
-                &[CUBE, T_TOPE, T_TERM, T_TOPE, T_TERM, TERM, POINT],
-            ),
-            Kind::RecOr => former(Sort::Term, "rec", &[TERM, TOPE, TOPE, TERM, TERM]),
-            Kind::RecBottom => former(Sort::Term, "abort", &[TERM]),
-            Kind::EmptyContext => former(Sort::Context, "nil", &[]),
-            Kind::CubeEntry => former(Sort::Context, "xcube", &[CONTEXT, CUBE]),
-            Kind::TopeEntry => former(Sort::Context, "xtope", &[CONTEXT, TOPE]),
-            Kind::TermEntry => former(Sort::Context, "xterm", &[CONTEXT, TERM]),
+            Kind::CubeOne => CUBE_ONE,
+            Kind::CubeTwo => CUBE_TWO,
+            Kind::Product => PRODUCT,
+            Kind::PointVariable => POINT_VARIABLE,
+            Kind::OnlyPoint => ONLY_POINT,
+            Kind::Zero => ZERO,
+            Kind::One => ONE,
+            Kind::PointPair => POINT_PAIR,
+            Kind::PointLeft => POINT_LEFT,
+            Kind::PointRight => POINT_RIGHT,
+            Kind::Top => TOP,
+            Kind::Bottom => BOTTOM,
+            Kind::Conjunction => CONJUNCTION,
+            Kind::Disjunction => DISJUNCTION,
+            Kind::EqualPoints => EQUAL_POINTS,
+            Kind::AtMost => AT_MOST,
+            Kind::Universe => UNIVERSE,
+            Kind::TermVariable => TERM_VARIABLE,
+            Kind::Constant => CONSTANT,
+            Kind::Postulate => POSTULATE,
+            Kind::Pi => PI,
+            Kind::Lambda => LAMBDA,
+            Kind::Application => APPLICATION,
+            Kind::Sigma => SIGMA,
+            Kind::Pair => PAIR,
+            Kind::First => FIRST,
+            Kind::Second => SECOND,
+            Kind::Identity => IDENTITY,
+            Kind::Reflexivity => REFLEXIVITY,
+            Kind::IdentityInduction => IDENTITY_INDUCTION,
+            Kind::UnitType => UNIT_TYPE,
+            Kind::Star => STAR,
+            Kind::Extension => EXTENSION,
+            Kind::ExtensionLambda => EXTENSION_LAMBDA,
+            Kind::ExtensionApplication => EXTENSION_APPLICATION,
+            Kind::RecOr => REC_OR,
+            Kind::RecBottom => REC_BOTTOM,
+            Kind::EmptyContext => EMPTY_CONTEXT,
+            Kind::CubeEntry => CUBE_ENTRY,
+            Kind::TopeEntry => TOPE_ENTRY,
+            Kind::TermEntry => TERM_ENTRY,
         }
     }
 }
 
-const KINDS: &[Kind] = &[
+/// The kinds, in the order of the table.
+pub const KINDS: &[Kind] = &[
     Kind::CubeOne,
     Kind::CubeTwo,
     Kind::Product,
@@ -381,47 +462,5 @@ impl Worded for Kind {
         KINDS
     }
 
-    ghost found_again = { kinds_found_again };
-}
-
-/// What a judgment says.
-#[derive(Clone, Copy, Debug, PartialEq, Eq)]
-pub enum Head {
-    /// `formed`: a context is formed.
-    Formed,
-    /// `holds`: in a context a tope holds.
-    Holds,
-}
-
-const HEADS: &[Head] = &[Head::Formed, Head::Holds];
-
-impl Head {
-    /// The places of the judgment's parts, its context first.
-    pub fn parts(self) -> &'static [Slot]
-        ensures { map (λ slot. slot.sort) result.now ≡ parts_of_head self }
-    {
-        match self {
-            Head::Formed => &[CONTEXT],
-            Head::Holds => &[CONTEXT, TOPE],
-        }
-    }
-}
-
-impl Worded for Head {
-    ghost word_of = { word_of_head };
-
-    ghost all = { all_heads };
-
-    fn word(&self) -> &'static str {
-        match self {
-            Head::Formed => "formed",
-            Head::Holds => "holds",
-        }
-    }
-
-    fn every() -> &'static [Head] {
-        HEADS
-    }
-
-    ghost found_again = { heads_found_again };
+    ghost words_are_distinct = { kind_words_are_distinct };
 }

@@ -6,6 +6,7 @@ ghost use Rattle.std.specs.Cmp.Lexicographic.{pointwise, nat_list_eq_equiv};
 ghost use Rattle.std.specs.Cmp.Rules.{hashing};
 ghost use Rattle.std.specs.Hash as fed;
 ghost use Rattle.std.specs.Option.{option_copied};
+ghost use Rattle.std.specs.Str.{IsUtf8};
 ghost use Rattle.std.proofs.Common.{rules};
 
 use crate::memory::OutOfMemory;
@@ -88,11 +89,25 @@ impl<T: Copy + Drop> Values<T> {
         self.items.as_slice()
     }
 
-    /// An equal list.
-    pub fn copy(&self, alloc: Global) -> Result<Self, OutOfMemory>
+    /// An equal list, in the same allocator.
+    pub fn copy(&self) -> Result<Self, OutOfMemory>
         ensures { IfOk result (λ list. list ≡ self.now) }
     {
-        Values::from_slice(alloc, self.items.as_slice())
+        Values::from_slice(*self.items.allocator(), self.items.as_slice())
+    }
+
+    /// The list of the items of a vector, which takes no memory.
+    pub fn from_vec(items: Vec<T>) -> Self
+        ensures { result ≡ items.items }
+    {
+        Values { items }
+    }
+
+    /// Its items as a vector, which takes no memory.
+    pub fn into_vec(self) -> Vec<T>
+        ensures { result.items ≡ self }
+    {
+        self.items
     }
 
     /// The list of these items.
@@ -161,6 +176,52 @@ impl<T: Drop> Items<T> {
     {
         self.items.as_slice()
     }
+
+    /// The list of the items of a vector, which takes no memory.
+    pub fn from_vec(items: Vec<T>) -> Self
+        ensures { result ≡ items.items }
+    {
+        Items { items }
+    }
+
+    /// Its items as a vector, which takes no memory.
+    pub fn into_vec(self) -> Vec<T>
+        ensures { result.items ≡ self }
+    {
+        self.items
+    }
+}
+
+impl<T: TryCopy + Drop> Items<T> {
+    /// An equal list, in the same allocator.
+    pub fn copy(&self) -> Result<Self, OutOfMemory>
+        ensures { IfOk result (λ list. list ≡ self.now) }
+    {
+        let mut items = Items::new(*self.items.allocator());
+        for item in self.items.as_slice() {
+            items.push(item.try_copy()?)?;
+        }
+        Ok(items)
+    }
+}
+
+/// A value that can be copied where there is memory.
+pub trait TryCopy {
+    /// An equal value.
+    fn try_copy(&self) -> Result<Self, OutOfMemory>
+        ensures { IfOk result (λ copy. copy ≡ self.now) };
+}
+
+impl<T: Copy + Drop> TryCopy for Values<T> {
+    fn try_copy(&self) -> Result<Self, OutOfMemory> {
+        self.copy()
+    }
+}
+
+impl TryCopy for Name {
+    fn try_copy(&self) -> Result<Self, OutOfMemory> {
+        self.copy()
+    }
 }
 
 /// A name: text, seen as its bytes, which are UTF-8.
@@ -220,16 +281,17 @@ impl Name {
 
     /// The name as text.
     pub fn as_str(&self) -> &str
-        ensures { result.now ≡ self.now }
+        ensures value { result.now ≡ self.now }
+        ensures text { IsUtf8 self.now }
     {
         self.text.as_str()
     }
 
-    /// An equal name.
-    pub fn copy(&self, alloc: Global) -> Result<Self, OutOfMemory>
+    /// An equal name, in the same allocator.
+    pub fn copy(&self) -> Result<Self, OutOfMemory>
         ensures { IfOk result (λ name. name ≡ self.now) }
     {
-        Name::from_text(alloc, self.text.as_str())
+        Name::from_text(*self.text.allocator(), self.text.as_str())
     }
 }
 

@@ -1,7 +1,7 @@
 //! The names of constants, postulates and claims.
 
 ghost use Rattle.std.specs.Prelude.{◌≡◌, ◌↔◌, false, IsTrue, All};
-ghost use Rattle.rz_rules.specs.File.{IsName, is_white};
+ghost use Rattle.rz_rules.specs.Name.{IsName, is_white};
 
 /// Whether bytes are a name: text, not empty, and without white space.
 pub fn is_name(bytes: &[u8]) -> bool

@@ -1,16 +1,19 @@
 //! Nodes: trees whose parts are named by ids.
 
-ghost use Rattle.std.specs.Prelude.{◌≡◌, [], ◌∷◌, ◌++◌, ◌<◌, ◌≤◌, length, slice_get, nat_eq, ◌↔◌, IsTrue, IfOk};
+ghost use Rattle.std.specs.Prelude.{◌≡◌, [], ◌∷◌, ◌++◌, ◌<◌, ◌≤◌, ◌^◌, true, false, length, slice_get, nat_eq, ◌↔◌, IsTrue, IsOk, IfOk};
+ghost use Rattle.rz_rules.specs.Form.{is_numbered, is_named};
+ghost use Rattle.rz_rules.specs.Name.{IsName};
+ghost use Rattle.rz_rules.specs.Tree.{IsLabelled};
 ghost use Rattle.std.specs.Cmp.{partial_equiv_from_equiv};
 ghost use Rattle.std.specs.Cmp.Lexicographic.{pointwise, nat_list_eq_equiv};
 ghost use Rattle.std.specs.Cmp.Rules.{hashing};
 ghost use Rattle.std.specs.Hash as fed;
 ghost use Rattle.std.proofs.Common.{rules};
 
-use crate::kinds::Kind;
-use crate::lists::Name;
+use crate::kinds::{Kind, Role};
+use crate::lists::{Name, TryCopy};
 use crate::memory::OutOfMemory;
-use std::alloc::Global;
+use crate::names::is_name;
 use std::hash::{Hash, Hasher};
 use std::marker::Model;
 
@@ -89,14 +92,15 @@ impl Kids {
         self.as_slice().get(place as usize).copied()
     }
 
-    /// An equal list.
-    pub fn copy(&self) -> Kids
-        ensures { result ≡ self.now }
+    /// An equal list. It takes no memory, and is never refused.
+    pub fn copy(&self) -> Result<Kids, OutOfMemory>
+        ensures copy { IfOk result (λ kids. kids ≡ self.now) }
+        ensures succeeds { IsOk result }
     {
-        Kids {
+        Ok(Kids {
             count: self.count,
             at: self.at,
-        }
+        })
     }
 }
 
@@ -124,6 +128,25 @@ impl Hash for Kids {
     }
 }
 
+/// Whether a node of this role may have this name, the empty one standing for none.
+fn is_name_for(role: Role, name: &str) -> bool
+    ensures { IsTrue result
+        ↔ ((is_named role ≡ false → name.now ≡ []) × (is_named role ≡ true → IsName name.now)) }
+{
+    if role.is_named() {
+        is_name(name.as_bytes())
+    } else {
+        name.is_empty()
+    }
+}
+
+/// Whether a node of this role may have this number.
+fn is_number_for(role: Role, number: u64) -> bool
+    ensures { IsTrue result ↔ ((number < 2 ^ 32) × (is_numbered role ≡ false → number ≡ 0)) }
+{
+    number < 1 << 32 && (role.is_numbered() || number == 0)
+}
+
 /// A node.
 #[derive(Debug, Drop, PartialEq, Eq, Hash)]
 pub struct Node {
@@ -137,15 +160,29 @@ pub struct Node {
 }
 
 impl Node {
+    /// Whether its number and its name are such as its kind has.
+    pub fn is_labelled(&self) -> bool
+        ensures { IsTrue result ↔ IsLabelled self.now.kind self.now.number self.now.name }
+    {
+        let role = self.kind.form().role;
+        is_number_for(role, self.number) && is_name_for(role, self.name.as_str())
+    }
+
     /// An equal node.
-    pub fn copy(&self, alloc: Global) -> Result<Node, OutOfMemory>
+    pub fn copy(&self) -> Result<Node, OutOfMemory>
         ensures { IfOk result (λ node. node ≡ self.now) }
     {
         Ok(Node {
             kind: self.kind,
             number: self.number,
-            name: self.name.copy(alloc)?,
-            kids: self.kids.copy(),
+            name: self.name.copy()?,
+            kids: self.kids.copy()?,
         })
+    }
+}
+
+impl TryCopy for Node {
+    fn try_copy(&self) -> Result<Node, OutOfMemory> {
+        self.copy()
     }
 }

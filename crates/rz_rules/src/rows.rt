@@ -1,179 +1,408 @@
 //! The row table: each rule of the theory as data.
 //!
 //! A row's text stands in prefix notation: the premises in their order, and then the conclusion. A letter stands for
-//! any tree, the same at each of its places. Beside its text a row may have conditions on the trees of its letters.
+//! any tree of its sort, the same at each of its places. Beside its text a row may have conditions on the trees of its
+//! letters. The tables are `contexts`, `topes`, `typing`, `congruence`, `computation` and `structural`.
 
 ghost use Rattle.std.specs.Prelude.{◌≡◌};
-ghost use Rattle.rz_rules.specs.Table.{text_of, conditions_of, word_of_row, all_rows, rows_found_again};
+ghost use Rattle.rz_rules.specs.Table.{IsRule, rule_of, word_of_row, all_rows, row_words_are_distinct};
 
-use crate::kinds::{Head, Kind};
+use crate::symbols::{Condition, Symbol};
 use crate::words::Worded;
 
-/// A symbol of a row's text.
-#[derive(Clone, Copy, Debug, PartialEq, Eq)]
-pub enum Symbol {
-    /// A letter, by its number within the row, from 0.
-    Letter(u8),
-    /// A node of a kind; its kids follow.
-    Node(Kind),
-    /// A judgment; its parts follow, its context first.
-    Says(Head),
-}
+pub mod computation;
+pub mod congruence;
+pub mod contexts;
+pub mod structural;
+pub mod topes;
+pub mod typing;
 
-/// What a row asks of the trees of its letters, beside its premises. A letter is named by its number within the row.
-#[derive(Clone, Copy, Debug, PartialEq, Eq)]
-pub enum Condition {
-    /// The letter is a cube of at most 64 leaves.
-    FewLeaves(u8),
-    /// Over the context that is the first letter, the second is a tope.
-    Over(u8, u8),
-}
+/// A rule: its word in a derivation file, its premises and then its conclusion, and what it asks beside its premises.
+pub type Rule = (&'static str, &'static [Symbol], &'static [Condition]);
 
 /// The rows. The word in a derivation file stands first in each line.
 #[derive(Clone, Copy, Debug, PartialEq, Eq)]
 pub enum Row {
     /// `ctx-nil`: the context without entries is formed.
-    FormNil,
+    ContextNil,
     /// `ctx-cube`: a formed context and a cube entry of at most 64 leaves are a formed context.
-    FormCube,
+    ContextCube,
     /// `ctx-tope`: a formed context and a tope over it are a formed context.
-    FormTope,
+    ContextTope,
+    /// `ctx-term`: a context and an entry of a type in it are a formed context.
+    ContextTerm,
     /// `top`: the tope that always holds does.
-    TopHolds,
+    Top,
+    /// `bot`: where the tope that never holds does, each tope holds.
+    Bottom,
+    /// `and-i`: two topes that hold have a conjunction that holds.
+    And,
+    /// `and-l`: the first part of a conjunction that holds does.
+    AndLeft,
+    /// `and-r`: the second part of a conjunction that holds does.
+    AndRight,
+    /// `or-l`: a disjunction holds where its first part does.
+    OrLeft,
+    /// `or-r`: a disjunction holds where its second part does.
+    OrRight,
+    /// `or-e`: a tope holds where a disjunction does, and the tope under each of its parts.
+    OrElimination,
+    /// `eq-refl`: a point equals itself.
+    EqualReflexive,
+    /// `eq-sym`: equality of points is symmetric.
+    EqualSymmetric,
+    /// `eq-trans`: equality of points is transitive.
+    EqualTransitive,
+    /// `eq-fst`: the first part of a pair of points is its first point.
+    EqualFirst,
+    /// `eq-snd`: the second part of a pair of points is its second point.
+    EqualSecond,
+    /// `eq-eta`: a point of a product is the pair of its parts.
+    EqualEta,
+    /// `eq-one`: two points of the cube with one point are equal.
+    EqualOne,
+    /// `eq-pair`: pairs of equal points are equal.
+    EqualPair,
+    /// `eq-left`: equal points of a product have equal first parts.
+    EqualLeft,
+    /// `eq-right`: equal points of a product have equal second parts.
+    EqualRight,
+    /// `le-eq`: of two equal points of the directed interval the first is at most the second.
+    AtMostEqual,
+    /// `le-trans`: the order of the directed interval is transitive.
+    AtMostTransitive,
+    /// `le-anti`: the order of the directed interval is antisymmetric.
+    AtMostAntisymmetric,
+    /// `le-total`: of two points of the directed interval one is at most the other.
+    AtMostTotal,
     /// `le-zero`: the first end of the directed interval is at most each of its points.
     ZeroAtMost,
     /// `le-one`: each point of the directed interval is at most its last end.
     AtMostOne,
-    /// `le-total`: of two points of the directed interval one is at most the other (Riehl and Shulman 2017, section 3).
-    AtMostTotal,
-    /// `le-trans`: the order of the directed interval is transitive (Riehl and Shulman 2017, section 3).
-    AtMostTransitive,
+    /// `zero-one`: the ends of the directed interval are not equal.
+    ZeroIsNotOne,
+    /// `univ`: the universe lies in itself.
+    Universe,
+    /// `const`: a constant whose type and body are derived without entries has its type.
+    Constant,
+    /// `post`: a postulate whose type is derived without entries has its type.
+    Postulate,
+    /// `pi`: functions from a type into a family over it form a type.
+    Pi,
+    /// `sig`: pairs over a family form a type.
+    Sigma,
+    /// `lam`: a term of the family under a variable gives a function.
+    Lambda,
+    /// `app`: a function at an argument lies in the family at the argument.
+    Application,
+    /// `pair`: two terms, the second in the family at the first, form a pair.
+    Pair,
+    /// `fst`: a pair has a first part.
+    First,
+    /// `snd`: a pair has a second part, in the family at the first.
+    Second,
+    /// `id`: two terms of a type have an identity type.
+    Identity,
+    /// `refl`: a term is identical to itself.
+    Reflexivity,
+    /// `J`: induction along an identity: from the case of reflexivity at a motive.
+    IdentityInduction,
+    /// `unit`: the type with one term is a type.
+    UnitType,
+    /// `star`: the only term of the type with one term.
+    Star,
+    /// `ext`: a family on a shape and a term of it on a face form an extension type.
+    Extension,
+    /// `xlam`: a term of the family on the shape that agrees with the face's term on the face gives a function on the shape.
+    ExtensionLambda,
+    /// `xapp`: a function on a shape at a point of the shape lies in the family at the point.
+    ExtensionApplication,
+    /// `rec`: terms under two topes, equal under both, give a term where one of the topes holds.
+    RecOr,
+    /// `abort`: where the tope that never holds does, each type has a term.
+    RecBottom,
+    /// `conv`: a term of a type is a term of each type that equals it.
+    Conversion,
+    /// `q-refl`: a term equals itself.
+    SameReflexive,
+    /// `q-sym`: equality of terms is symmetric.
+    SameSymmetric,
+    /// `q-trans`: equality of terms is transitive.
+    SameTransitive,
+    /// `q-conv`: terms that are equal at a type are equal at each type that equals it.
+    SameConversion,
+    /// `c-pi`: equal types and families form equal types of functions.
+    PiCongruence,
+    /// `c-sig`: equal types and families form equal types of pairs.
+    SigmaCongruence,
+    /// `c-lam`: functions with equal parts are equal.
+    LambdaCongruence,
+    /// `c-app`: applications with equal parts are equal.
+    ApplicationCongruence,
+    /// `c-pair`: pairs with equal parts are equal.
+    PairCongruence,
+    /// `c-fst`: equal pairs have equal first parts.
+    FirstCongruence,
+    /// `c-snd`: equal pairs have equal second parts.
+    SecondCongruence,
+    /// `c-id`: equal terms of equal types have equal identity types.
+    IdentityCongruence,
+    /// `c-refl`: equal terms have equal reflexivities.
+    ReflexivityCongruence,
+    /// `c-J`: inductions along identities with equal parts are equal.
+    IdentityInductionCongruence,
+    /// `c-ext`: extension types over one cube with equivalent topes and equal parts are equal.
+    ExtensionCongruence,
+    /// `c-xlam`: functions on a shape with equal parts are equal.
+    ExtensionLambdaCongruence,
+    /// `c-xapp`: equal functions on a shape at equal points are equal.
+    ExtensionApplicationCongruence,
+    /// `c-rec`: eliminations of one disjunction with equal terms are equal.
+    RecOrCongruence,
+    /// `c-abort`: where the tope that never holds does, equal types have equal terms by it.
+    RecBottomCongruence,
+    /// `q-beta`: a function at an argument is its body there.
+    Beta,
+    /// `q-eta`: a function is the function of its values.
+    Eta,
+    /// `q-fst`: the first part of a pair is its first term.
+    FirstBeta,
+    /// `q-snd`: the second part of a pair is its second term.
+    SecondBeta,
+    /// `q-pair`: a term of a type of pairs is the pair of its parts.
+    PairEta,
+    /// `q-J`: induction along a reflexivity is its case.
+    IdentityInductionBeta,
+    /// `q-unit`: each term of the type with one term is that term.
+    UnitEta,
+    /// `q-delta`: a constant is its body.
+    Delta,
+    /// `q-xbeta`: a function on a shape at a point is its body there.
+    ExtensionBeta,
+    /// `q-xeta`: a function on a shape is the function of its values.
+    ExtensionEta,
+    /// `q-face`: a function on a shape agrees with the face's term on the face.
+    Face,
+    /// `q-or-l`: where the first tope holds, the elimination of a disjunction is its first term.
+    RecOrLeft,
+    /// `q-or-r`: where the second tope holds, the elimination of a disjunction is its second term.
+    RecOrRight,
+    /// `q-or-eta`: where a disjunction holds, a term is the elimination with it under both topes.
+    RecOrEta,
+    /// `q-abort`: where the tope that never holds does, each term is that of its type by it.
+    RecBottomEta,
+    /// `q-cube`: a term at a point is the term at each point that equals it.
+    PointReplacement,
+    /// `s-type`: the type of a term is a type.
+    TypeOf,
+    /// `s-left`: the left side of an equality has its type.
+    LeftSide,
+    /// `s-right`: the right side of an equality has its type.
+    RightSide,
 }
 
-const FORMED: Symbol = Symbol::Says(Head::Formed);
-
-const HOLDS: Symbol = Symbol::Says(Head::Holds);
-
-const NIL: Symbol = Symbol::Node(Kind::EmptyContext);
-
-const XCUBE: Symbol = Symbol::Node(Kind::CubeEntry);
-
-const XTOPE: Symbol = Symbol::Node(Kind::TopeEntry);
-
-const TOP: Symbol = Symbol::Node(Kind::Top);
-
-const OR: Symbol = Symbol::Node(Kind::Disjunction);
-
-const AT_MOST: Symbol = Symbol::Node(Kind::AtMost);
-
-const ZERO: Symbol = Symbol::Node(Kind::Zero);
-
-const ONE: Symbol = Symbol::Node(Kind::One);
-
-/// The letter for a context.
-const CONTEXT: u8 = 0;
-
-/// The letter for a cube.
-const CUBE: u8 = 1;
-
-/// The letter for a tope.
-const TOPE: u8 = 5;
-
-const C: Symbol = Symbol::Letter(CONTEXT);
-
-const I: Symbol = Symbol::Letter(CUBE);
-
-const S: Symbol = Symbol::Letter(2);
-
-const U: Symbol = Symbol::Letter(3);
-
-const W: Symbol = Symbol::Letter(4);
-
-const P: Symbol = Symbol::Letter(TOPE);
-
-pub const FORM_NIL: &[Symbol] = &[
-    FORMED, NIL, //
-];
-
-pub const FORM_CUBE: &[Symbol] = &[
-    FORMED, C, //
-    FORMED, XCUBE, C, I,
-];
-
-/// The cube entry is narrow.
-pub const FORM_CUBE_CONDITIONS: &[Condition] = &[Condition::FewLeaves(CUBE)];
-
-pub const FORM_TOPE: &[Symbol] = &[
-    FORMED, C, //
-    FORMED, XTOPE, C, P,
-];
-
-/// The tope entry is over what stands before it.
-pub const FORM_TOPE_CONDITIONS: &[Condition] = &[Condition::Over(CONTEXT, TOPE)];
-
-pub const TOP_HOLDS: &[Symbol] = &[
-    FORMED, C, //
-    HOLDS, C, TOP,
-];
-
-pub const ZERO_AT_MOST: &[Symbol] = &[
-    FORMED, C, //
-    HOLDS, C, AT_MOST, ZERO, S,
-];
-
-pub const AT_MOST_ONE: &[Symbol] = &[
-    FORMED, C, //
-    HOLDS, C, AT_MOST, S, ONE,
-];
-
-pub const AT_MOST_TOTAL: &[Symbol] = &[
-    FORMED, C, //
-    HOLDS, C, OR, AT_MOST, S, U, AT_MOST, U, S,
-];
-
-pub const AT_MOST_TRANSITIVE: &[Symbol] = &[
-    HOLDS, C, AT_MOST, S, U, //
-    HOLDS, C, AT_MOST, U, W, //
-    HOLDS, C, AT_MOST, S, W,
-];
-
-const ROWS: &[Row] = &[
-    Row::FormNil,
-    Row::FormCube,
-    Row::FormTope,
-    Row::TopHolds,
+/// The rows, in the order of the table.
+pub const ROWS: &[Row] = &[
+    Row::ContextNil,
+    Row::ContextCube,
+    Row::ContextTope,
+    Row::ContextTerm,
+    Row::Top,
+    Row::Bottom,
+    Row::And,
+    Row::AndLeft,
+    Row::AndRight,
+    Row::OrLeft,
+    Row::OrRight,
+    Row::OrElimination,
+    Row::EqualReflexive,
+    Row::EqualSymmetric,
+    Row::EqualTransitive,
+    Row::EqualFirst,
+    Row::EqualSecond,
+    Row::EqualEta,
+    Row::EqualOne,
+    Row::EqualPair,
+    Row::EqualLeft,
+    Row::EqualRight,
+    Row::AtMostEqual,
+    Row::AtMostTransitive,
+    Row::AtMostAntisymmetric,
+    Row::AtMostTotal,
     Row::ZeroAtMost,
     Row::AtMostOne,
-    Row::AtMostTotal,
-    Row::AtMostTransitive,
+    Row::ZeroIsNotOne,
+    Row::Universe,
+    Row::Constant,
+    Row::Postulate,
+    Row::Pi,
+    Row::Sigma,
+    Row::Lambda,
+    Row::Application,
+    Row::Pair,
+    Row::First,
+    Row::Second,
+    Row::Identity,
+    Row::Reflexivity,
+    Row::IdentityInduction,
+    Row::UnitType,
+    Row::Star,
+    Row::Extension,
+    Row::ExtensionLambda,
+    Row::ExtensionApplication,
+    Row::RecOr,
+    Row::RecBottom,
+    Row::Conversion,
+    Row::SameReflexive,
+    Row::SameSymmetric,
+    Row::SameTransitive,
+    Row::SameConversion,
+    Row::PiCongruence,
+    Row::SigmaCongruence,
+    Row::LambdaCongruence,
+    Row::ApplicationCongruence,
+    Row::PairCongruence,
+    Row::FirstCongruence,
+    Row::SecondCongruence,
+    Row::IdentityCongruence,
+    Row::ReflexivityCongruence,
+    Row::IdentityInductionCongruence,
+    Row::ExtensionCongruence,
+    Row::ExtensionLambdaCongruence,
+    Row::ExtensionApplicationCongruence,
+    Row::RecOrCongruence,
+    Row::RecBottomCongruence,
+    Row::Beta,
+    Row::Eta,
+    Row::FirstBeta,
+    Row::SecondBeta,
+    Row::PairEta,
+    Row::IdentityInductionBeta,
+    Row::UnitEta,
+    Row::Delta,
+    Row::ExtensionBeta,
+    Row::ExtensionEta,
+    Row::Face,
+    Row::RecOrLeft,
+    Row::RecOrRight,
+    Row::RecOrEta,
+    Row::RecBottomEta,
+    Row::PointReplacement,
+    Row::TypeOf,
+    Row::LeftSide,
+    Row::RightSide,
 ];
 
 impl Row {
-    /// The row's text: its premises, and then its conclusion.
-    pub fn text(self) -> &'static [Symbol]
-        ensures { result.now ≡ text_of self }
+    /// The row's entry of the table.
+    fn rule(self) -> Rule
+        ensures { IsRule (rule_of self) result }
     {
         match self {
-            Row::FormNil => FORM_NIL,
-            Row::FormCube => FORM_CUBE,
-            Row::FormTope => FORM_TOPE,
-            Row::TopHolds => TOP_HOLDS,
-            Row::ZeroAtMost => ZERO_AT_MOST,
-            Row::AtMostOne => AT_MOST_ONE,
-            Row::AtMostTotal => AT_MOST_TOTAL,
-            Row::AtMostTransitive => AT_MOST_TRANSITIVE,
+            Row::ContextNil => contexts::CONTEXT_NIL_RULE,
+            Row::ContextCube => contexts::CONTEXT_CUBE_RULE,
+            Row::ContextTope => contexts::CONTEXT_TOPE_RULE,
+            Row::ContextTerm => contexts::CONTEXT_TERM_RULE,
+            Row::Top => topes::TOP_RULE,
+            Row::Bottom => topes::BOTTOM_RULE,
+            Row::And => topes::AND_RULE,
+            Row::AndLeft => topes::AND_LEFT_RULE,
+            Row::AndRight => topes::AND_RIGHT_RULE,
+            Row::OrLeft => topes::OR_LEFT_RULE,
+            Row::OrRight => topes::OR_RIGHT_RULE,
+            Row::OrElimination => topes::OR_ELIMINATION_RULE,
+            Row::EqualReflexive => topes::EQUAL_REFLEXIVE_RULE,
+            Row::EqualSymmetric => topes::EQUAL_SYMMETRIC_RULE,
+            Row::EqualTransitive => topes::EQUAL_TRANSITIVE_RULE,
+            Row::EqualFirst => topes::EQUAL_FIRST_RULE,
+            Row::EqualSecond => topes::EQUAL_SECOND_RULE,
+            Row::EqualEta => topes::EQUAL_ETA_RULE,
+            Row::EqualOne => topes::EQUAL_ONE_RULE,
+            Row::EqualPair => topes::EQUAL_PAIR_RULE,
+            Row::EqualLeft => topes::EQUAL_LEFT_RULE,
+            Row::EqualRight => topes::EQUAL_RIGHT_RULE,
+            Row::AtMostEqual => topes::AT_MOST_EQUAL_RULE,
+            Row::AtMostTransitive => topes::AT_MOST_TRANSITIVE_RULE,
+            Row::AtMostAntisymmetric => topes::AT_MOST_ANTISYMMETRIC_RULE,
+            Row::AtMostTotal => topes::AT_MOST_TOTAL_RULE,
+            Row::ZeroAtMost => topes::ZERO_AT_MOST_RULE,
+            Row::AtMostOne => topes::AT_MOST_ONE_RULE,
+            Row::ZeroIsNotOne => topes::ZERO_IS_NOT_ONE_RULE,
+            Row::Universe => typing::UNIVERSE_RULE,
+            Row::Constant => typing::CONSTANT_RULE,
+            Row::Postulate => typing::POSTULATE_RULE,
+            Row::Pi => typing::PI_RULE,
+            Row::Sigma => typing::SIGMA_RULE,
+            Row::Lambda => typing::LAMBDA_RULE,
+            Row::Application => typing::APPLICATION_RULE,
+            Row::Pair => typing::PAIR_RULE,
+            Row::First => typing::FIRST_RULE,
+            Row::Second => typing::SECOND_RULE,
+            Row::Identity => typing::IDENTITY_RULE,
+            Row::Reflexivity => typing::REFLEXIVITY_RULE,
+            Row::IdentityInduction => typing::IDENTITY_INDUCTION_RULE,
+            Row::UnitType => typing::UNIT_TYPE_RULE,
+            Row::Star => typing::STAR_RULE,
+            Row::Extension => typing::EXTENSION_RULE,
+            Row::ExtensionLambda => typing::EXTENSION_LAMBDA_RULE,
+            Row::ExtensionApplication => typing::EXTENSION_APPLICATION_RULE,
+            Row::RecOr => typing::REC_OR_RULE,
+            Row::RecBottom => typing::REC_BOTTOM_RULE,
+            Row::Conversion => typing::CONVERSION_RULE,
+            Row::SameReflexive => congruence::SAME_REFLEXIVE_RULE,
+            Row::SameSymmetric => congruence::SAME_SYMMETRIC_RULE,
+            Row::SameTransitive => congruence::SAME_TRANSITIVE_RULE,
+            Row::SameConversion => congruence::SAME_CONVERSION_RULE,
+            Row::PiCongruence => congruence::PI_CONGRUENCE_RULE,
+            Row::SigmaCongruence => congruence::SIGMA_CONGRUENCE_RULE,
+            Row::LambdaCongruence => congruence::LAMBDA_CONGRUENCE_RULE,
+            Row::ApplicationCongruence => congruence::APPLICATION_CONGRUENCE_RULE,
+            Row::PairCongruence => congruence::PAIR_CONGRUENCE_RULE,
+            Row::FirstCongruence => congruence::FIRST_CONGRUENCE_RULE,
+            Row::SecondCongruence => congruence::SECOND_CONGRUENCE_RULE,
+            Row::IdentityCongruence => congruence::IDENTITY_CONGRUENCE_RULE,
+            Row::ReflexivityCongruence => congruence::REFLEXIVITY_CONGRUENCE_RULE,
+            Row::IdentityInductionCongruence => congruence::IDENTITY_INDUCTION_CONGRUENCE_RULE,
+            Row::ExtensionCongruence => congruence::EXTENSION_CONGRUENCE_RULE,
+            Row::ExtensionLambdaCongruence => congruence::EXTENSION_LAMBDA_CONGRUENCE_RULE,
+            Row::ExtensionApplicationCongruence =>
+                congruence::EXTENSION_APPLICATION_CONGRUENCE_RULE,
+            Row::RecOrCongruence => congruence::REC_OR_CONGRUENCE_RULE,
+            Row::RecBottomCongruence => congruence::REC_BOTTOM_CONGRUENCE_RULE,
+            Row::Beta => computation::BETA_RULE,
+            Row::Eta => computation::ETA_RULE,
+            Row::FirstBeta => computation::FIRST_BETA_RULE,
+            Row::SecondBeta => computation::SECOND_BETA_RULE,
+            Row::PairEta => computation::PAIR_ETA_RULE,
+            Row::IdentityInductionBeta => computation::IDENTITY_INDUCTION_BETA_RULE,
+            Row::UnitEta => computation::UNIT_ETA_RULE,
+            Row::Delta => computation::DELTA_RULE,
+            Row::ExtensionBeta => computation::EXTENSION_BETA_RULE,
+            Row::ExtensionEta => computation::EXTENSION_ETA_RULE,
+            Row::Face => computation::FACE_RULE,
+            Row::RecOrLeft => computation::REC_OR_LEFT_RULE,
+            Row::RecOrRight => computation::REC_OR_RIGHT_RULE,
+            Row::RecOrEta => computation::REC_OR_ETA_RULE,
+            Row::RecBottomEta => computation::REC_BOTTOM_ETA_RULE,
+            Row::PointReplacement => computation::POINT_REPLACEMENT_RULE,
+            Row::TypeOf => structural::TYPE_OF_RULE,
+            Row::LeftSide => structural::LEFT_SIDE_RULE,
+            Row::RightSide => structural::RIGHT_SIDE_RULE,
         }
+    }
+
+    /// The row's text: its premises, and then its conclusion.
+    pub fn text(self) -> &'static [Symbol]
+        ensures { result.now ≡ (rule_of self).text }
+    {
+        self.rule().1
     }
 
     /// What the row asks beside its premises.
     pub fn conditions(self) -> &'static [Condition]
-        ensures { result.now ≡ conditions_of self }
+        ensures { result.now ≡ (rule_of self).conditions }
     {
-        match self {
-            Row::FormCube => FORM_CUBE_CONDITIONS,
-            Row::FormTope => FORM_TOPE_CONDITIONS,
-            _ => &[],
-        }
+        self.rule().2
     }
 }
 
@@ -183,21 +412,12 @@ impl Worded for Row {
     ghost all = { all_rows };
 
     fn word(&self) -> &'static str {
-        match self {
-            Row::FormNil => "ctx-nil",
-            Row::FormCube => "ctx-cube",
-            Row::FormTope => "ctx-tope",
-            Row::TopHolds => "top",
-            Row::ZeroAtMost => "le-zero",
-            Row::AtMostOne => "le-one",
-            Row::AtMostTotal => "le-total",
-            Row::AtMostTransitive => "le-trans",
-        }
+        self.rule().0
     }
 
     fn every() -> &'static [Row] {
         ROWS
     }
 
-    ghost found_again = { rows_found_again };
+    ghost words_are_distinct = { row_words_are_distinct };
 }

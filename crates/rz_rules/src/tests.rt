@@ -1,8 +1,8 @@
 ghost use Rattle.std.specs.Prelude.{◌≡◌, ◌<◌};
 
 use crate::{
-    Bytes, Condition, Head, Items, Judgment, Kids, Kind, Line, Name, Node, Numbers, OutOfMemory,
-    Row, Sort, Space, Steps, Symbol, Worded, is_name,
+    Bytes, Condition, Items, Judgment, JudgmentKind, Kids, Kind, LETTERS, Label, Letter, Line,
+    Name, Node, Numbers, OutOfMemory, Row, Sort, Space, Steps, Symbol, Worded, is_name,
 };
 use std::alloc::{AllocError, Global};
 use std::marker::Brand;
@@ -60,39 +60,385 @@ const KINDS: &[(&str, Kind, &str, &str)] = &[
     ("xterm", Kind::TermEntry, "C", "C a"),
 ];
 
+/// Each row in words, written from the printed rules: its premises, its conclusion, and then what it asks beside them.
+/// `few I` is a cube of few leaves, `over C P` a tope over a context, `point C I S` a point of a cube over a context; `n`
+/// is the name that the row speaks of.
 const ROWS: &[(&str, Row, &str)] = &[
-    ("ctx-nil", Row::FormNil, "formed nil"),
-    ("ctx-cube", Row::FormCube, "formed a formed xcube a b"),
-    ("ctx-tope", Row::FormTope, "formed a formed xtope a f"),
-    ("top", Row::TopHolds, "formed a holds a ttop"),
-    ("le-zero", Row::ZeroAtMost, "formed a holds a tle p0 c"),
-    ("le-one", Row::AtMostOne, "formed a holds a tle c p1"),
+    ("ctx-nil", Row::ContextNil, "formed nil"),
     (
-        "le-total",
-        Row::AtMostTotal,
-        "formed a holds a tor tle c d tle d c",
+        "ctx-cube",
+        Row::ContextCube,
+        "formed C formed xcube C I few I",
+    ),
+    (
+        "ctx-tope",
+        Row::ContextTope,
+        "formed C formed xtope C P over C P",
+    ),
+    ("ctx-term", Row::ContextTerm, "has C A U formed xterm C A"),
+    ("top", Row::Top, "formed C holds C ttop"),
+    ("bot", Row::Bottom, "holds C tbot holds C P"),
+    ("and-i", Row::And, "holds C P holds C Q holds C tand P Q"),
+    ("and-l", Row::AndLeft, "holds C tand P Q holds C P"),
+    ("and-r", Row::AndRight, "holds C tand P Q holds C Q"),
+    ("or-l", Row::OrLeft, "holds C P holds C tor P Q"),
+    ("or-r", Row::OrRight, "holds C Q holds C tor P Q"),
+    (
+        "or-e",
+        Row::OrElimination,
+        "holds C tor P Q holds xtope C P R holds xtope C Q R holds C R",
+    ),
+    ("eq-refl", Row::EqualReflexive, "formed C holds C teq I S S"),
+    (
+        "eq-sym",
+        Row::EqualSymmetric,
+        "holds C teq I S T holds C teq I T S",
+    ),
+    (
+        "eq-trans",
+        Row::EqualTransitive,
+        "holds C teq I S T holds C teq I T W holds C teq I S W",
+    ),
+    (
+        "eq-fst",
+        Row::EqualFirst,
+        "formed C holds C teq I pl pp S T S",
+    ),
+    (
+        "eq-snd",
+        Row::EqualSecond,
+        "formed C holds C teq K pr pp S T T",
+    ),
+    (
+        "eq-eta",
+        Row::EqualEta,
+        "formed C holds C teq cx I K S pp pl S pr S",
+    ),
+    ("eq-one", Row::EqualOne, "formed C holds C teq c1 S T"),
+    (
+        "eq-pair",
+        Row::EqualPair,
+        "holds C teq I S S1 holds C teq K T T1 holds C teq cx I K pp S T pp S1 T1",
+    ),
+    (
+        "eq-left",
+        Row::EqualLeft,
+        "holds C teq cx I K S T holds C teq I pl S pl T",
+    ),
+    (
+        "eq-right",
+        Row::EqualRight,
+        "holds C teq cx I K S T holds C teq K pr S pr T",
+    ),
+    (
+        "le-eq",
+        Row::AtMostEqual,
+        "holds C teq c2 S T holds C tle S T",
     ),
     (
         "le-trans",
         Row::AtMostTransitive,
-        "holds a tle c d holds a tle d e holds a tle c e",
+        "holds C tle S T holds C tle T W holds C tle S W",
     ),
+    (
+        "le-anti",
+        Row::AtMostAntisymmetric,
+        "holds C tle S T holds C tle T S holds C teq c2 S T",
+    ),
+    (
+        "le-total",
+        Row::AtMostTotal,
+        "formed C holds C tor tle S T tle T S",
+    ),
+    ("le-zero", Row::ZeroAtMost, "formed C holds C tle p0 S"),
+    ("le-one", Row::AtMostOne, "formed C holds C tle S p1"),
+    (
+        "zero-one",
+        Row::ZeroIsNotOne,
+        "holds C teq c2 p0 p1 holds C tbot",
+    ),
+    ("univ", Row::Universe, "formed C has C U U"),
+    (
+        "const",
+        Row::Constant,
+        "has nil A U has nil Y A formed C has C const n A Y A",
+    ),
+    (
+        "post",
+        Row::Postulate,
+        "has nil A U formed C has C post n A A",
+    ),
+    ("pi", Row::Pi, "has C A U has xterm C A B U has C pi A B U"),
+    (
+        "sig",
+        Row::Sigma,
+        "has C A U has xterm C A B U has C sig A B U",
+    ),
+    (
+        "lam",
+        Row::Lambda,
+        "has C pi A B U has xterm C A Y B has C lam A B Y pi A B",
+    ),
+    (
+        "app",
+        Row::Application,
+        "has C F pi A B has C X A has C app A B F X put-x B X",
+    ),
+    (
+        "pair",
+        Row::Pair,
+        "has C sig A B U has C X A has C Y put-x B X has C pair A B X Y sig A B",
+    ),
+    ("fst", Row::First, "has C H sig A B has C fst A B H A"),
+    (
+        "snd",
+        Row::Second,
+        "has C H sig A B has C snd A B H put-x B fst A B H",
+    ),
+    (
+        "id",
+        Row::Identity,
+        "has C A U has C X A has C Y A has C id A X Y U",
+    ),
+    (
+        "refl",
+        Row::Reflexivity,
+        "has C X A has C refl A X id A X X",
+    ),
+    (
+        "J",
+        Row::IdentityInduction,
+        "has C M pi A pi id up-x A up-x X v 0 U has C G app id A X X U app A pi id up-x A up-x X v 0 U M X refl A X has C Y A has C H id A X Y has C J A X M G Y H app id A X Y U app A pi id up-x A up-x X v 0 U M Y H",
+    ),
+    ("unit", Row::UnitType, "formed C has C unit U"),
+    ("star", Row::Star, "formed C has C star unit"),
+    (
+        "ext",
+        Row::Extension,
+        "has xtope xcube C I P A U has xtope xtope xcube C I P Q X A has C ext I P A Q X U",
+    ),
+    (
+        "xlam",
+        Row::ExtensionLambda,
+        "has C ext I P A Q X U has xtope xcube C I P Y A same xtope xtope xcube C I P Q Y X A has C xlam I P A Q X Y ext I P A Q X",
+    ),
+    (
+        "xapp",
+        Row::ExtensionApplication,
+        "has C F ext I P A Q X holds C put-t P S has C xapp I P A Q X F S put-t A S point C I S",
+    ),
+    (
+        "rec",
+        Row::RecOr,
+        "has C A U holds C tor P Q has xtope C P X A has xtope C Q Y A same xtope C tand P Q X Y A has C rec A P Q X Y A",
+    ),
+    (
+        "abort",
+        Row::RecBottom,
+        "has C A U holds C tbot has C abort A A",
+    ),
+    ("conv", Row::Conversion, "has C X A same C A B U has C X B"),
+    ("q-refl", Row::SameReflexive, "has C X A same C X X A"),
+    ("q-sym", Row::SameSymmetric, "same C X Y A same C Y X A"),
+    (
+        "q-trans",
+        Row::SameTransitive,
+        "same C X Y A same C Y Z A same C X Z A",
+    ),
+    (
+        "q-conv",
+        Row::SameConversion,
+        "same C X Y A same C A B U same C X Y B",
+    ),
+    (
+        "c-pi",
+        Row::PiCongruence,
+        "same C A A1 U same xterm C A B B1 U same C pi A B pi A1 B1 U",
+    ),
+    (
+        "c-sig",
+        Row::SigmaCongruence,
+        "same C A A1 U same xterm C A B B1 U same C sig A B sig A1 B1 U",
+    ),
+    (
+        "c-lam",
+        Row::LambdaCongruence,
+        "same C A A1 U same xterm C A B B1 U same xterm C A Y Y1 B same C lam A B Y lam A1 B1 Y1 pi A B",
+    ),
+    (
+        "c-app",
+        Row::ApplicationCongruence,
+        "same C A A1 U same xterm C A B B1 U same C F F1 pi A B same C X X1 A same C app A B F X app A1 B1 F1 X1 put-x B X",
+    ),
+    (
+        "c-pair",
+        Row::PairCongruence,
+        "same C A A1 U same xterm C A B B1 U same C X X1 A same C Y Y1 put-x B X same C pair A B X Y pair A1 B1 X1 Y1 sig A B",
+    ),
+    (
+        "c-fst",
+        Row::FirstCongruence,
+        "same C A A1 U same xterm C A B B1 U same C H H1 sig A B same C fst A B H fst A1 B1 H1 A",
+    ),
+    (
+        "c-snd",
+        Row::SecondCongruence,
+        "same C A A1 U same xterm C A B B1 U same C H H1 sig A B same C snd A B H snd A1 B1 H1 put-x B fst A B H",
+    ),
+    (
+        "c-id",
+        Row::IdentityCongruence,
+        "same C A A1 U same C X X1 A same C Y Y1 A same C id A X Y id A1 X1 Y1 U",
+    ),
+    (
+        "c-refl",
+        Row::ReflexivityCongruence,
+        "same C A A1 U same C X X1 A same C refl A X refl A1 X1 id A X X",
+    ),
+    (
+        "c-J",
+        Row::IdentityInductionCongruence,
+        "same C A A1 U same C X X1 A same C M M1 pi A pi id up-x A up-x X v 0 U same C G G1 app id A X X U app A pi id up-x A up-x X v 0 U M X refl A X same C Y Y1 A same C H H1 id A X Y same C J A X M G Y H J A1 X1 M1 G1 Y1 H1 app id A X Y U app A pi id up-x A up-x X v 0 U M Y H",
+    ),
+    (
+        "c-ext",
+        Row::ExtensionCongruence,
+        "holds xtope xcube C I P P1 holds xtope xcube C I P1 P same xtope xcube C I P A A1 U holds xtope xtope xcube C I P Q Q1 holds xtope xtope xcube C I P Q1 Q same xtope xtope xcube C I P Q X X1 A same C ext I P A Q X ext I P1 A1 Q1 X1 U",
+    ),
+    (
+        "c-xlam",
+        Row::ExtensionLambdaCongruence,
+        "has C xlam I P A Q X Y ext I P A Q X holds xtope xcube C I P P1 holds xtope xcube C I P1 P same xtope xcube C I P A A1 U holds xtope xtope xcube C I P Q Q1 holds xtope xtope xcube C I P Q1 Q same xtope xtope xcube C I P Q X X1 A same xtope xcube C I P Y Y1 A same C xlam I P A Q X Y xlam I P1 A1 Q1 X1 Y1 ext I P A Q X",
+    ),
+    (
+        "c-xapp",
+        Row::ExtensionApplicationCongruence,
+        "holds xtope xcube C I P P1 holds xtope xcube C I P1 P same xtope xcube C I P A A1 U holds xtope xtope xcube C I P Q Q1 holds xtope xtope xcube C I P Q1 Q same xtope xtope xcube C I P Q X X1 A same C F F1 ext I P A Q X holds C teq I S S1 holds C put-t P S same C xapp I P A Q X F S xapp I P1 A1 Q1 X1 F1 S1 put-t A S",
+    ),
+    (
+        "c-rec",
+        Row::RecOrCongruence,
+        "has C rec A P Q X Y A same C A A1 U same xtope C P X X1 A same xtope C Q Y Y1 A same C rec A P Q X Y rec A1 P Q X1 Y1 A",
+    ),
+    (
+        "c-abort",
+        Row::RecBottomCongruence,
+        "same C A A1 U holds C tbot same C abort A abort A1 A",
+    ),
+    (
+        "q-beta",
+        Row::Beta,
+        "has xterm C A Y B has C X A same C app A B lam A B Y X put-x Y X put-x B X",
+    ),
+    (
+        "q-eta",
+        Row::Eta,
+        "has C F pi A B same C F lam A B app up-x A up-x1 B up-x F v 0 pi A B",
+    ),
+    (
+        "q-fst",
+        Row::FirstBeta,
+        "has C pair A B X Y sig A B same C fst A B pair A B X Y X A",
+    ),
+    (
+        "q-snd",
+        Row::SecondBeta,
+        "has C pair A B X Y sig A B same C snd A B pair A B X Y Y put-x B X",
+    ),
+    (
+        "q-pair",
+        Row::PairEta,
+        "has C H sig A B same C H pair A B fst A B H snd A B H sig A B",
+    ),
+    (
+        "q-J",
+        Row::IdentityInductionBeta,
+        "has C J A X M G X refl A X B same C J A X M G X refl A X G B",
+    ),
+    ("q-unit", Row::UnitEta, "has C X unit same C X star unit"),
+    (
+        "q-delta",
+        Row::Delta,
+        "has C const n A Y A same C const n A Y Y A",
+    ),
+    (
+        "q-xbeta",
+        Row::ExtensionBeta,
+        "has C xlam I P A Q X Y ext I P A Q X holds C put-t P S same C xapp I P A Q X xlam I P A Q X Y S put-t Y S put-t A S point C I S",
+    ),
+    (
+        "q-xeta",
+        Row::ExtensionEta,
+        "has C F ext I P A Q X same C F xlam I P A Q X xapp I up-t1 P up-t1 A up-t1 Q up-t1 X up-t F pv 0 ext I P A Q X",
+    ),
+    (
+        "q-face",
+        Row::Face,
+        "has C F ext I P A Q X holds C put-t P S holds C put-t Q S same C xapp I P A Q X F S put-t X S put-t A S point C I S",
+    ),
+    (
+        "q-or-l",
+        Row::RecOrLeft,
+        "has C rec A P Q X Y A holds C P same C rec A P Q X Y X A",
+    ),
+    (
+        "q-or-r",
+        Row::RecOrRight,
+        "has C rec A P Q X Y A holds C Q same C rec A P Q X Y Y A",
+    ),
+    (
+        "q-or-eta",
+        Row::RecOrEta,
+        "has C Z A holds C tor P Q same C Z rec A P Q Z Z A",
+    ),
+    (
+        "q-abort",
+        Row::RecBottomEta,
+        "has C X A holds C tbot same C X abort A A",
+    ),
+    (
+        "q-cube",
+        Row::PointReplacement,
+        "has xtope xcube C I P X A holds C teq I S T holds C put-t P S same C put-t X S put-t X T put-t A S",
+    ),
+    ("s-type", Row::TypeOf, "has C X A has C A U"),
+    ("s-left", Row::LeftSide, "same C X Y A has C X A"),
+    ("s-right", Row::RightSide, "same C X Y A has C Y A"),
 ];
 
-/// The names of the letters.
-const LETTERS: &[&str] = &["a", "b", "c", "d", "e", "f"];
-
-/// The word of a symbol of a text.
-fn word_of(symbol: Symbol) -> &'static str {
-    match symbol {
-        Symbol::Letter(letter) => match LETTERS.get(letter as usize) {
-            Some(name) => *name,
-            None => "?",
-        },
-        Symbol::Node(kind) => kind.word(),
-        Symbol::Says(head) => head.word(),
-    }
-}
+/// The letters by their numbers, each with its sort as in `KINDS`.
+const LETTER_NAMES: &[(&str, &str)] = &[
+    ("C", "C"),
+    ("I", "I"),
+    ("K", "I"),
+    ("S", "s"),
+    ("S1", "s"),
+    ("T", "s"),
+    ("T1", "s"),
+    ("W", "s"),
+    ("P", "p"),
+    ("P1", "p"),
+    ("Q", "p"),
+    ("Q1", "p"),
+    ("R", "p"),
+    ("A", "a"),
+    ("A1", "a"),
+    ("B", "a"),
+    ("B1", "a"),
+    ("X", "a"),
+    ("X1", "a"),
+    ("Y", "a"),
+    ("Y1", "a"),
+    ("Z", "a"),
+    ("F", "a"),
+    ("F1", "a"),
+    ("H", "a"),
+    ("H1", "a"),
+    ("M", "a"),
+    ("M1", "a"),
+    ("G", "a"),
+    ("G1", "a"),
+];
 
 /// The letter of a sort.
 fn letter_of(sort: Sort) -> &'static str {
@@ -103,6 +449,62 @@ fn letter_of(sort: Sort) -> &'static str {
         Sort::Term => "a",
         Sort::Context => "C",
     }
+}
+
+/// The name of a letter, where its sort is that of the table.
+fn name_of(letter: Letter) -> &'static str {
+    match LETTER_NAMES.get(letter.number as usize) {
+        Some((name, sort)) if *sort == letter_of(letter.sort) => *name,
+        _ => "?",
+    }
+}
+
+/// What stands behind the word of a node.
+fn label_of(label: Label) -> &'static str {
+    match label {
+        Label::Plain => "",
+        Label::Index(0) => "0",
+        Label::Index(_) => "?",
+        Label::RowName => "n",
+    }
+}
+
+/// The words of a symbol.
+fn words_of(symbol: Symbol) -> [&'static str; 2] {
+    match symbol {
+        Symbol::Letter(letter) => [name_of(letter), ""],
+        Symbol::Node(kind, label) => [kind.word(), label_of(label)],
+        Symbol::Put(Space::Points) => ["put-t", ""],
+        Symbol::Put(Space::Terms) => ["put-x", ""],
+        Symbol::Shift(Space::Points, 0) => ["up-t", ""],
+        Symbol::Shift(Space::Points, 1) => ["up-t1", ""],
+        Symbol::Shift(Space::Terms, 0) => ["up-x", ""],
+        Symbol::Shift(Space::Terms, 1) => ["up-x1", ""],
+        Symbol::Shift(_, _) => ["?", ""],
+        Symbol::Says(kind) => [kind.word(), ""],
+    }
+}
+
+/// The words of a condition.
+fn words_of_condition(condition: Condition) -> [&'static str; 4] {
+    match condition {
+        Condition::FewLeaves(cube) => ["few", name_of(cube), "", ""],
+        Condition::TopeOver(context, tope) => ["over", name_of(context), name_of(tope), ""],
+        Condition::PointOf(context, cube, point) => {
+            ["point", name_of(context), name_of(cube), name_of(point)]
+        }
+    }
+}
+
+/// Adds words, with a space between two; an empty one adds nothing.
+fn add(text: &mut String, words: &[&'static str]) -> Result<(), AllocError> {
+    for word in words {
+        if !text.is_empty() && !word.is_empty() {
+            text.push(' ')?;
+        }
+        text.push_str(word)?;
+    }
+    Ok(())
 }
 
 /// What the kids of a kind are, in letters.
@@ -123,115 +525,171 @@ fn places(alloc: Global, kind: Kind) -> Result<String, AllocError> {
     Ok(text)
 }
 
-/// The text of a row in words.
+/// A row in words.
 fn spelled(alloc: Global, row: Row) -> Result<String, AllocError> {
     let mut text = String::new(alloc);
     for symbol in row.text() {
-        if !text.is_empty() {
-            text.push(' ')?;
-        }
-        text.push_str(word_of(*symbol))?;
+        add(&mut text, &words_of(*symbol))?;
+    }
+    for condition in row.conditions() {
+        add(&mut text, &words_of_condition(*condition))?;
     }
     Ok(text)
 }
 
 #[test]
-fn words_of_the_tables(rt: HostRuntime) -> Result<(), Fail> {
+fn kinds_have_their_forms(rt: HostRuntime) -> Result<(), Fail> {
+    assert_eq!(rt; Kind::every().len(), KINDS.len());
     for (word, kind, sort, kids) in KINDS {
         assert_eq!(rt; kind.word(), *word);
+        assert!(rt; Kind::of_word(word.as_bytes()) == Some(*kind));
         assert_eq!(rt; letter_of(kind.form().sort), *sort);
         let places = places(rt.alloc(), *kind)?;
         assert_eq!(rt; places.as_str(), *kids);
-        assert!(rt; Kind::of_word(word.as_bytes()) == Some(*kind));
+        let role = kind.form().role;
+        let numbered = matches!(*kind, Kind::PointVariable | Kind::TermVariable);
+        let named = matches!(*kind, Kind::Constant | Kind::Postulate);
+        assert_eq!(rt; (role.is_numbered(), role.is_named()), (numbered, named));
     }
+    assert!(rt; Kind::of_word(b"c22").is_none());
+    Ok(())
+}
+
+#[test]
+fn rows_are_as_printed(rt: HostRuntime) -> Result<(), Fail> {
+    assert_eq!(rt;
+        (Row::every().len(), LETTER_NAMES.len()),
+        (ROWS.len(), LETTERS)
+    );
     for (word, row, text) in ROWS {
         assert_eq!(rt; row.word(), *word);
         assert!(rt; Row::of_word(word.as_bytes()) == Some(*row));
         let words = spelled(rt.alloc(), *row)?;
-        assert_eq!(rt; words.as_str(), *text);
+        assert_eq!(rt; words.as_str(), *text, "{word}");
     }
-    assert!(rt; Head::of_word(b"holds") == Some(Head::Holds));
-    assert!(rt; Head::of_word(b"formed") == Some(Head::Formed));
-    assert!(rt; Kind::of_word(b"c22").is_none());
     assert!(rt; Row::of_word(b"").is_none());
     Ok(())
 }
 
 #[test]
-fn roles_and_conditions(rt: HostRuntime) {
-    for (_, kind, _, _) in KINDS {
-        let role = kind.form().role;
-        let numbered = matches!(*kind, Kind::PointVariable | Kind::TermVariable);
-        let named = matches!(*kind, Kind::Constant | Kind::Postulate);
-        assert_eq!(rt; role.is_numbered(), numbered);
-        assert_eq!(rt; role.is_named(), named);
-    }
-    assert!(rt; Row::FormCube.conditions() == [Condition::FewLeaves(1)].as_slice());
-    assert!(rt; Row::FormTope.conditions() == [Condition::Over(0, 5)].as_slice());
-    assert!(rt; Row::AtMostTotal.conditions().is_empty());
-}
-
-#[test]
-fn numbers_and_their_copies(rt: HostRuntime) -> Result<(), Fail> {
+fn lists_and_their_copies(rt: HostRuntime) -> Result<(), Fail> {
     let alloc = rt.alloc();
     let mut numbers = Numbers::new(alloc);
     numbers.push(7)?;
     numbers.extend_from_slice(&[9, 4])?;
-    let again = numbers.copy(alloc)?;
+    let again = Numbers::from_vec(numbers.copy()?.into_vec());
     assert!(rt; again.as_slice() == [7, 9, 4].as_slice());
     assert_eq!(rt;
         (again.len(), again.get(1), again.get(3)),
         (3, Some(9), None)
     );
-    Ok(())
-}
-
-#[test]
-fn names_and_items(rt: HostRuntime) -> Result<(), Fail> {
-    let alloc = rt.alloc();
-    let mut name = Name::from_text(alloc, "a")?;
-    name.push('λ')?;
-    let same = name.copy(alloc)?;
-    assert_eq!(rt; same.as_str(), "aλ");
-    assert_eq!(rt; (same.len(), same.get(0)), (3, Some(97)));
-    assert_eq!(rt; Name::new(alloc).len(), 0);
 
     let mut items: Items<Bytes> = Items::new(alloc);
     items.push(Bytes::from_slice(alloc, b"one")?)?;
-    assert_eq!(rt; (items.len(), items.as_slice().len()), (1, 1));
-    assert!(rt; items.get(1).is_none());
+    let same = Items::from_vec(items.copy()?.into_vec());
+    assert_eq!(rt; (same.len(), same.as_slice().len()), (1, 1));
+    assert!(rt;
+        same.get(0)
+            .is_some_and(|bytes| bytes.as_slice() == b"one".as_slice())
+    );
+    assert!(rt; same.get(1).is_none());
     Ok(())
 }
 
 #[test]
-fn nodes_and_lines(rt: HostRuntime) -> Result<(), Fail> {
+fn names_and_their_copies(rt: HostRuntime) -> Result<(), Fail> {
     let alloc = rt.alloc();
-    let node = Node {
-        kind: Kind::AtMost,
-        number: 0,
-        name: Name::new(alloc),
-        kids: Kids::from_slice(&[4, 5]),
-    };
-    let same = node.copy(alloc)?;
-    assert!(rt; node == same);
-    let mut other = node.kids.copy();
-    other.push(6);
-    assert_eq!(rt;
-        (other.len(), other.get(2), node.kids.get(2)),
-        (3, Some(6), None)
-    );
+    let mut name = Name::from_text(alloc, "a")?;
+    name.push('λ')?;
+    let same = name.copy()?;
+    assert!(rt; name == same);
+    assert_eq!(rt; same.as_str(), "aλ");
+    assert_eq!(rt; (same.len(), same.get(0), same.get(3)), (3, Some(97), None));
+    assert_eq!(rt; Name::new(alloc).len(), 0);
+    Ok(())
+}
 
-    let says = Judgment::Holds { c: 3, phi: 8 };
-    assert!(rt; Judgment::of(Head::Holds, says.parts().as_slice()) == Some(says));
-    assert!(rt; Judgment::of(Head::Formed, says.parts().as_slice()).is_none());
+/// Kinds, numbers and names, and whether a node may have them.
+const LABELS: [(Kind, u64, &str, bool); 8] = [
+    (Kind::AtMost, 0, "", true),
+    (Kind::AtMost, 1, "", false),
+    (Kind::AtMost, 0, "k", false),
+    (Kind::TermVariable, 4294967295, "", true),
+    (Kind::TermVariable, 4294967296, "", false),
+    (Kind::Constant, 0, "k", true),
+    (Kind::Constant, 0, "", false),
+    (Kind::Postulate, 1, "k", false),
+];
+
+#[test]
+fn nodes_and_their_labels(rt: HostRuntime) -> Result<(), Fail> {
+    for (place, (kind, number, name, wanted)) in LABELS.iter().enumerate() {
+        let node = Node {
+            kind: *kind,
+            number: *number,
+            name: Name::from_text(rt.alloc(), name)?,
+            kids: Kids::from_slice(&[4, 5]),
+        };
+        assert_eq!(rt; node.is_labelled(), *wanted, "row {place}");
+        let same = node.copy()?;
+        assert!(rt; node == same);
+    }
+    let mut kids = Kids::new();
+    kids.push(4);
+    let mut more = kids.copy()?;
+    more.push(6);
+    assert!(rt; more.as_slice() == [4, 6].as_slice());
+    assert_eq!(rt; (more.len(), more.get(1), kids.get(1)), (2, Some(6), None));
+    Ok(())
+}
+
+/// Judgments in the context 3, with what they say, their parts, and the sorts of these.
+const JUDGMENTS: &[(&str, Judgment, &[u64], &[Sort])] = &[
+    ("formed", Judgment::Formed { c: 3 }, &[], &[]),
+    (
+        "holds",
+        Judgment::Holds { c: 3, phi: 8 },
+        &[8],
+        &[Sort::Tope],
+    ),
+    (
+        "has",
+        Judgment::Has { c: 3, a: 8, of: 6 },
+        &[8, 6],
+        &[Sort::Term, Sort::Term],
+    ),
+    (
+        "same",
+        Judgment::Same {
+            c: 3,
+            a: 8,
+            b: 7,
+            of: 6,
+        },
+        &[8, 7, 6],
+        &[Sort::Term, Sort::Term, Sort::Term],
+    ),
+];
+
+#[test]
+fn judgments_and_lines(rt: HostRuntime) -> Result<(), Fail> {
+    for (word, says, parts, sorts) in JUDGMENTS {
+        let kind = says.kind();
+        assert_eq!(rt; (kind.word(), says.context()), (*word, 3));
+        assert!(rt; JudgmentKind::of_word(word.as_bytes()) == Some(kind));
+        assert!(rt; kind.parts() == *sorts);
+        assert!(rt; says.parts().as_slice() == *parts);
+        assert!(rt; Judgment::of(kind, 3, parts) == Some(*says));
+        assert!(rt; Judgment::of(kind, 3, &[1, 2, 3, 4]).is_none());
+    }
     let line = Line {
         row: Row::AtMostTotal,
-        number: 0,
-        says,
-        from: Numbers::from_slice(alloc, &[2])?,
+        number: 9,
+        says: Judgment::Holds { c: 3, phi: 8 },
+        from: Numbers::from_slice(rt.alloc(), &[2])?,
     };
-    let again = line.copy(alloc)?;
-    assert!(rt; again.says == says && again.row == line.row);
+    let again = line.copy()?;
+    assert!(rt; again.says == line.says && again.row == line.row && again.number == 9);
     assert!(rt; again.from.as_slice() == [2].as_slice());
     Ok(())
 }

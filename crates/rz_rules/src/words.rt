@@ -33,5 +33,5 @@ pub trait Worded: Copy + 'static {
     }
 
     /// The items are told apart by their words, and none is left out.
-    ghost found_again: { (item : Self) → find (λ other. bytes_eq (word_of other) (word_of item)) all ≡ Some item };
+    ghost words_are_distinct: { (item : Self) → find (λ other. bytes_eq (word_of other) (word_of item)) all ≡ Some item };
 }

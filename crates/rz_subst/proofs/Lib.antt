@@ -1,4 +1,6 @@
 pub mod Places
+pub mod Staying
 pub mod Listing
 pub mod Making
-pub mod Room
+pub mod Answering
+pub mod PutVariables

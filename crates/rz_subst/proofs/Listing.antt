@@ -1,17 +1,19 @@
 -- The list of the places in a tree, while it is made.
-use Rattle.std.proofs.Common.{◌≡◌, ℕ, ◌<◌, ◌^◌, Bool, true, false, cond, List, [], ◌∷◌, ◌++◌, Some, length, map, All, Contains, slice_get, refl, sym, subst, ◌∙◌, ◌⊎◌, inl, inr, true≢false, arith}
+use Rattle.std.proofs.Common.{◌≡◌, ℕ, ◌<◌, ◌^◌, Bool, true, false, cond, List, [], ◌∷◌, ◌++◌, Option, Some, length, map, All, Contains, slice_get, refl, sym, subst, ◌∙◌, ◌⊎◌, inl, inr, true≢false, arith}
 use Rattle.std.specs.Ordering.{is_eq}
-use Rattle.std.proofs.lemmas.List.Elements.{All-head, All-tail, All-cons, All-nil, All-push, Contains-push, Contains-append_left}
+use Rattle.std.proofs.lemmas.List.Elements.{All-head, All-tail, All-weaker, All-cons, All-nil, All-push, Contains-push, Contains-append_left}
 use Rattle.rz_rules.specs.declared.kinds.Role.{Role}
 use Rattle.rz_rules.specs.declared.kinds.Role.TheVariants.{Variable, Declared, Former}
 use Rattle.rz_rules.specs.declared.kinds.Slot.{Slot}
+use Rattle.rz_rules.specs.declared.kinds.Space.{Space}
 use Rattle.rz_rules.specs.declared.nodes.Node.{Node}
 use Rattle.rz_rules.specs.Form.{form}
 use Rattle.rz_rules.specs.Tree.{Trees, trees_of, trees_in, tree_over, tree_of}
 use Rattle.rz_rules.specs.Substitution.{Depth, Changes, changed, changed_kids, changed_node, first_slot, other_slots, IndicesBelow, AllIndicesBelow}
 use Rattle.rz_subst.specs.declared.walk.Place.{Place}
 use Rattle.rz_subst.specs.contracts.walk.PlaceOrd.TheImpl.{cmp-value}
-use Rattle.rz_subst.specs.Walk.{depth_of, kid_place, kid_places, walked, places_below, IsKid, answer, IsFit, AreSettled, ListsPlaces, Joined}
+use Rattle.rz_pool.specs.Counts.{depth_of}
+use Rattle.rz_subst.specs.Walk.{kid_place, kid_places, walked, places_below, IsBeyond, IsKid, answer, IsFit, AreSettled, AreNext, ListsPlaces, Joined}
 use Rattle.rz_subst.proofs.Places.{depth_kid, equal_places}
 
 -- the kids of a place whose answer fits have fitting answers
@@ -66,10 +68,10 @@ pub each : (P : Place → Type 0) (places : List Place) (place : Place) → All 
 each P places place all (k, l, e) = subst P e (all k place l)
 
 -- settled places, where one more is listed
-settled_push : (nodes : List Node) (places : List Place) (part : Place) (S T : Place → Type 0) → AreSettled nodes places S
-    → ((q : Place) → S q → (q ≡ part) ⊎ T q) → ((q : Place) → IsKid nodes part q → T q) → AreSettled nodes (places ++ part ∷ []) T
-settled_push nodes [] part S T settled stays kids = ((λ q kid. inr (kids q kid)), tt)
-settled_push nodes (place ∷ places) part S T settled stays kids = (
+settled_push : (reach : Space → Option ℕ) (nodes : List Node) (places : List Place) (part : Place) (S T : Place → Type 0) → AreSettled reach nodes places S
+    → ((q : Place) → S q → (q ≡ part) ⊎ T q) → ((q : Place) → IsKid reach nodes part q → T q) → AreSettled reach nodes (places ++ part ∷ []) T
+settled_push reach nodes [] part S T settled stays kids = ((λ q kid. inr (kids q kid)), tt)
+settled_push reach nodes (place ∷ places) part S T settled stays kids = (
   (λ q kid. elim (settled.0 q kid) [
     | inl after ↦ inl (Contains-append_left places (part ∷ []) q after)
     | inr s ↦ elim (stays q s) [
@@ -77,29 +79,50 @@ settled_push nodes (place ∷ places) part S T settled stays kids = (
       | inr t ↦ inr t
     ]
   ]),
-  settled_push nodes places part S T settled.1 stays kids,
+  settled_push reach nodes places part S T settled.1 stays kids,
 )
 
-pub settled_weaker : (nodes : List Node) (places : List Place) (S T : Place → Type 0) → ((q : Place) → S q → T q) → AreSettled nodes places S → AreSettled nodes places T
-settled_weaker nodes [] S T more settled = tt
-settled_weaker nodes (place ∷ places) S T more settled = (
+pub settled_weaker : (reach : Space → Option ℕ) (nodes : List Node) (places : List Place) (S T : Place → Type 0) → ((q : Place) → S q → T q) → AreSettled reach nodes places S → AreSettled reach nodes places T
+settled_weaker reach nodes [] S T more settled = tt
+settled_weaker reach nodes (place ∷ places) S T more settled = (
   (λ q kid. elim (settled.0 q kid) [ inl after ↦ inl after | inr s ↦ inr (more q s) ]),
-  settled_weaker nodes places S T more settled.1,
+  settled_weaker reach nodes places S T more settled.1,
 )
+
+-- the places to which the walk goes on
+pub AreNext-beyond : (reach : Space → Option ℕ) (nodes : List Node) (place : Place) → IsBeyond reach nodes place → AreNext reach nodes place []
+AreNext-beyond reach nodes place beyond = record {
+  all = λ kid is. absurd (is.goes beyond);
+  live = All-nil (λ (kid : Place). kid.id < length nodes);
+  fits = λ changes fit. All-nil (IsFit changes nodes);
+}
+
+pub AreNext-below : (reach : Space → Option ℕ) (nodes : List Node) (place : Place) (node : Node) → place.id < length nodes → slice_get nodes place.id ≡ Some node
+    → tree_of nodes place.id ≡ tree_over (trees_in nodes) node → All (λ kid. kid < place.id) node.kids → AreNext reach nodes place (places_below place node)
+AreNext-below reach nodes place node live at tree low = record {
+  all = λ kid is.
+      let found : Some node ≡ Some is.node = sym at ∙ is.at in
+      let same : is.node ≡ node = cc in
+      subst (λ (n : Node). Contains (places_below place n) kid) same is.is;
+  live = All-weaker (λ (kid : Place). kid.id < place.id) (λ (kid : Place). kid.id < length nodes) (λ kid l. omega (arith, live)) (places_below place node) (below_low place place.id node low);
+  fits = λ changes fit. below_fit changes nodes place node tree low fit;
+}
 
 -- some places are listed, and others wait
-pub record IsListing (nodes : List Node) (whole : Place) (waits : Place → Bool) (places : List Place) : Type 0 where
+pub record IsListing (reach : Space → Option ℕ) (nodes : List Node) (whole : Place) (waits : Place → Bool) (places : List Place) : Type 0 where
   pub top : Contains places whole ⊎ (waits whole ≡ true)
   pub live : (q : Place) → waits q ≡ true → q.id < length nodes
+  pub listed_live : All (λ (place : Place). place.id < length nodes) places
   pub waiting : (changes : Changes) → IndicesBelow (2 ^ 32) (answer changes nodes whole) → (q : Place) → waits q ≡ true → IsFit changes nodes q
   pub listed : (changes : Changes) → IndicesBelow (2 ^ 32) (answer changes nodes whole) → All (IsFit changes nodes) places
-  pub settled : AreSettled nodes places (λ q. waits q ≡ true)
+  pub settled : AreSettled reach nodes places (λ q. waits q ≡ true)
 
-pub IsListing-start : (nodes : List Node) (whole : Place) (waits : Place → Bool) → whole.id < length nodes → waits whole ≡ true
-    → ((q : Place) → waits q ≡ true → q ≡ whole) → IsListing nodes whole waits []
-IsListing-start nodes whole waits l top only = record {
+pub IsListing-start : (reach : Space → Option ℕ) (nodes : List Node) (whole : Place) (waits : Place → Bool) → whole.id < length nodes → waits whole ≡ true
+    → ((q : Place) → waits q ≡ true → q ≡ whole) → IsListing reach nodes whole waits []
+IsListing-start reach nodes whole waits l top only = record {
   top = inr top;
   live = λ q h. subst (λ (p : Place). p.id < length nodes) (sym (only q h)) l;
+  listed_live = All-nil (λ (place : Place). place.id < length nodes);
   waiting = λ changes fits q h. subst (IsFit changes nodes) (sym (only q h)) (record { live = l; indices = fits });
   listed = λ changes fits. All-nil (IsFit changes nodes);
   settled = tt;
@@ -109,14 +132,13 @@ cond_cases : (t a : Bool) → cond t false a ≡ true → (t ≡ false) × (a �
 cond_cases true a h = absurd (true≢false (sym h))
 cond_cases false a h = (refl, h)
 
--- one more place is listed, which waited, and its kids wait
-module _ (nodes : List Node) (whole : Place) (waits : Place → Bool) (places : List Place) (listing : IsListing nodes whole waits places)
-    (part : Place) (node : Node) (here : waits part ≡ true) (at : slice_get nodes part.id ≡ Some node)
-    (tree : tree_of nodes part.id ≡ tree_over (trees_in nodes) node) (low : All (λ kid. kid < part.id) node.kids)
+-- one more place is listed, which waited, and those to which the walk goes on wait
+module _ (reach : Space → Option ℕ) (nodes : List Node) (whole : Place) (waits : Place → Bool) (places : List Place)
+    (listing : IsListing reach nodes whole waits places) (part : Place) (here : waits part ≡ true) (below : List Place) (next : AreNext reach nodes part below)
     (left more : Place → Bool)
     (gone : (q : Place) → left q ≡ cond (is_eq (cmp-value.it part q)) false (waits q))
     (kept : (q : Place) → is_eq (cmp-value.it part q) ≡ false → left q ≡ waits q)
-    (joined : Joined left more (places_below part node)) where
+    (joined : Joined left more below) where
   stays : (q : Place) → waits q ≡ true → (q ≡ part) ⊎ (more q ≡ true)
   stays q h = by (is_eq (cmp-value.it part q)) refl
     where
@@ -124,16 +146,13 @@ module _ (nodes : List Node) (whole : Place) (waits : Place → Bool) (places : 
       by true e = inl (sym (equal_places part q e))
       by false e = inr (joined.kept q (kept q e ∙ h))
 
-  kid_waits : (q : Place) → IsKid nodes part q → more q ≡ true
-  kid_waits q kid =
-      let found : Some node ≡ Some kid.node = sym at ∙ kid.at in
-      let same : kid.node ≡ node = cc in
-      joined.added q (subst (λ (n : Node). Contains (places_below part n) q) same kid.is)
+  kid_waits : (q : Place) → IsKid reach nodes part q → more q ≡ true
+  kid_waits q kid = joined.added q (next.all q kid)
 
   old_waits : (q : Place) → left q ≡ true → waits q ≡ true
   old_waits q h = (cond_cases (is_eq (cmp-value.it part q)) (waits q) (sym (gone q) ∙ h)).1
 
-  pub IsListing-push : IsListing nodes whole more (places ++ part ∷ [])
+  pub IsListing-push : IsListing reach nodes whole more (places ++ part ∷ [])
   IsListing-push = record {
     top = elim listing.top [
       | inl listed ↦ inl (Contains-append_left places (part ∷ []) whole listed)
@@ -144,20 +163,22 @@ module _ (nodes : List Node) (whole : Place) (waits : Place → Bool) (places : 
     ];
     live = λ q h. elim (joined.only q h) [
       | inl w ↦ listing.live q (old_waits q w)
-      | inr kid ↦ omega (arith, each (λ (k : Place). k.id < part.id) (places_below part node) q (below_low part part.id node low) kid, listing.live part here)
+      | inr kid ↦ each (λ (k : Place). k.id < length nodes) below q next.live kid
     ];
+    listed_live = All-push (λ (place : Place). place.id < length nodes) places part listing.listed_live (listing.live part here);
     waiting = λ changes fits q h. elim (joined.only q h) [
       | inl w ↦ listing.waiting changes fits q (old_waits q w)
-      | inr kid ↦ each (IsFit changes nodes) (places_below part node) q (below_fit changes nodes part node tree low (listing.waiting changes fits part here)) kid
+      | inr kid ↦ each (IsFit changes nodes) below q (next.fits changes (listing.waiting changes fits part here)) kid
     ];
     listed = λ changes fits. All-push (IsFit changes nodes) places part (listing.listed changes fits) (listing.waiting changes fits part here);
-    settled = settled_push nodes places part (λ q. waits q ≡ true) (λ q. more q ≡ true) listing.settled stays kid_waits;
+    settled = settled_push reach nodes places part (λ q. waits q ≡ true) (λ q. more q ≡ true) listing.settled stays kid_waits;
   }
 
-pub ListsPlaces-end : (nodes : List Node) (whole : Place) (waits : Place → Bool) (places : List Place) → IsListing nodes whole waits places
-    → ((q : Place) → waits q ≡ false) → ListsPlaces nodes whole places
-ListsPlaces-end nodes whole waits places listing none = record {
+pub ListsPlaces-end : (reach : Space → Option ℕ) (nodes : List Node) (whole : Place) (waits : Place → Bool) (places : List Place) → IsListing reach nodes whole waits places
+    → ((q : Place) → waits q ≡ false) → ListsPlaces reach nodes whole places
+ListsPlaces-end reach nodes whole waits places listing none = record {
   top = elim listing.top [ inl listed ↦ listed | inr w ↦ absurd (true≢false (sym w ∙ none whole)) ];
-  settled = settled_weaker nodes places (λ q. waits q ≡ true) (λ _. ⊥) (λ q w. true≢false (sym w ∙ none q)) listing.settled;
+  settled = settled_weaker reach nodes places (λ q. waits q ≡ true) (λ _. ⊥) (λ q w. true≢false (sym w ∙ none q)) listing.settled;
+  live = listing.listed_live;
   fits = listing.listed;
 }

@@ -1,23 +1,25 @@
 -- The answers of the places in a tree, while they are made.
-use Rattle.std.proofs.Common.{◌≡◌, ℕ, ◌<◌, ◌^◌, Bool, true, false, cond, List, [], ◌∷◌, ◌++◌, Option, Some, get_or, length, map, All, Contains, slice_get, unwrap_or, refl, sym, ap, subst, ◌∙◌, ◌⊎◌, inl, inr, true≢false, arith}
+use Rattle.std.proofs.Common.{◌≡◌, ℕ, ◌<◌, ◌^◌, Bool, true, false, cond, List, [], ◌∷◌, ◌++◌, Option, Some, IfSome, ◌+◌, get_or, length, map, All, Contains, slice_get, unwrap_or, refl, sym, ap, subst, ◌∙◌, ◌⊎◌, inl, inr, true≢false, arith}
 use Rattle.std.proofs.lemmas.List.{length_push, length-map, get_or_append_left}
 use Rattle.std.proofs.lemmas.List.Elements.{All-head, All-tail, All-cons, All-nil, Contains-push, Contains-push_cases, Contains-get_or}
 use Rattle.rz_rules.specs.declared.kinds.Kind.{Kind}
 use Rattle.rz_rules.specs.declared.kinds.Role.{Role}
-use Rattle.rz_rules.specs.declared.kinds.Role.TheVariants.{Variable, Former}
+use Rattle.rz_rules.specs.declared.kinds.Role.TheVariants.{Variable, Declared, Former}
 use Rattle.rz_rules.specs.declared.kinds.Slot.{Slot}
 use Rattle.rz_rules.specs.declared.kinds.Space.{Space}
 use Rattle.rz_rules.specs.declared.nodes.Node.{Node}
 use Rattle.rz_rules.specs.Form.{form, is_numbered}
 use Rattle.rz_rules.specs.Tree.{Tree, Trees, At, Nil, trees_of, sort_of, trees_in, tree_over, tree_of}
-use Rattle.rz_rules.specs.Substitution.{Depth, Changes, Change, Renumbered, Replaced, changed, changed_kids, changed_node, changed_variable, first_slot, other_slots, IndicesBelow}
-use Rattle.rz_pool.specs.Pool.{HasForm, Grows}
+use Rattle.rz_rules.specs.Substitution.{Depth, Changes, Change, Renumbered, Replaced, changed, changed_kids, changed_node, changed_variable, first_slot, other_slots, IndicesBelow, NoneFrom}
+use Rattle.rz_pool.specs.Counts.{depth_of}
+use Rattle.rz_rules.specs.Tree.{HasForm}
+use Rattle.rz_pool.specs.Pool.{IsPool, Grows}
 use Rattle.rz_pool.proofs.Nodes.{Grows-same, Grows-trans, length-Grows, KeepsTrees-Grows, slice_get-front}
 use Rattle.rz_subst.specs.declared.walk.Place.{Place}
 use Rattle.rz_subst.specs.declared.walk.Change.TheVariants as answers
 use Rattle.rz_subst.specs.contracts.walk.PlacePartialEq.TheImpl.{eq-value}
 use Rattle.rz_subst.specs.Sorts.{variable_form, sort_changed}
-use Rattle.rz_subst.specs.Walk.{depth_of, kid_place, kid_places, walked, places_below, IsKid, answer, IsFit, AreSettled, IsMade, IsChange, FitsChange, KeepsSorts, new_id}
+use Rattle.rz_subst.specs.Walk.{kid_place, kid_places, walked, places_below, IsBeyond, IsKid, answer, AreSettled, HasMisfit, IsMade, IsChange, FitsChange, KeepsSorts, new_id}
 use Rattle.rz_subst.proofs.Places.{depth_kid, places_Decides}
 use Rattle.rz_subst.proofs.Listing.{each, settled_weaker}
 
@@ -68,10 +70,10 @@ module _ (made : Place → Option ℕ) (changes : Changes) (nodes : List Node) (
 pub record IsNodeAt (nodes : List Node) (place : Place) (node : Node) : Type 0 where
   pub at : slice_get nodes place.id ≡ Some node
   pub tree : tree_of nodes place.id ≡ tree_over (trees_in nodes) node
-  pub form : HasForm nodes place.id node
+  pub form : HasForm (trees_in nodes) place.id node
 
 pub IsNodeAt-copy : (nodes : List Node) (place : Place) (node copy : Node) → slice_get nodes place.id ≡ Some node → tree_of nodes place.id ≡ tree_over (trees_in nodes) node
-    → HasForm nodes place.id node → copy ≡ node → IsNodeAt nodes place copy
+    → HasForm (trees_in nodes) place.id node → copy ≡ node → IsNodeAt nodes place copy
 IsNodeAt-copy nodes place node copy at tree form same = subst (IsNodeAt nodes place) (sym same) (record { at = at; tree = tree; form = form })
 
 -- as many kids as slots
@@ -90,19 +92,23 @@ fits_change : (change : Change) (kind : Kind) (name : List ℕ) (kids : Trees) �
 fits_change (Renumbered number) kind name kids h = h.0
 fits_change (Replaced tree) kind name kids h = h
 
-fits_number : (new : List Node) (change : Change) (number : ℕ) → IsChange new (answers.Renumbered number) change → FitsChange change → number < 2 ^ 32
-fits_number new (Renumbered other) number is fits = subst (λ n. n < 2 ^ 32) (sym is) fits
-fits_number new (Replaced tree) number is fits = absurd is
+fits_number : (new : List Node) (change : Change) (number : ℕ) → IsChange new (answers.Renumbered number) change → number < 2 ^ 32
+fits_number new (Renumbered other) number is = is.1
+fits_number new (Replaced tree) number is = absurd is
 
 renumbered_is : (new : List Node) (change : Change) (number : ℕ) (kind : Kind) (name : List ℕ) (kids : Trees) → IsChange new (answers.Renumbered number) change
     → At kind number name kids ≡ changed_variable change kind name kids
-renumbered_is new (Renumbered other) number kind name kids is = ap (λ n. At kind n name kids) is
+renumbered_is new (Renumbered other) number kind name kids is = ap (λ n. At kind n name kids) is.0
 renumbered_is new (Replaced tree) number kind name kids is = absurd is
 
 replaced_is : (new : List Node) (change : Change) (id : ℕ) (kind : Kind) (name : List ℕ) (kids : Trees) → IsChange new (answers.Replaced id) change
     → tree_of new id ≡ changed_variable change kind name kids
 replaced_is new (Renumbered other) id kind name kids is = absurd is
 replaced_is new (Replaced tree) id kind name kids is = is.1
+
+replaced_live : (new : List Node) (change : Change) (id : ℕ) → IsChange new (answers.Replaced id) change → id < length new
+replaced_live new (Renumbered other) id is = absurd is
+replaced_live new (Replaced tree) id is = is.0
 
 -- what becomes of the node at a place
 module _ (changes : Changes) (nodes : List Node) (place : Place) (node : Node) (known : IsNodeAt nodes place node) where
@@ -123,19 +129,21 @@ module _ (changes : Changes) (nodes : List Node) (place : Place) (node : Node) (
     no_kids : node.kids ≡ []
     no_kids = empty_list node.kids (enough_slots nodes place node known ∙ ap length (variable_form node.kind space variable).1)
 
-    pub variable_fits : IsFit changes nodes place → FitsChange (changes space depth node.number)
-    variable_fits fit =
-        fits_change (changes space depth node.number) node.kind node.name new_kids (subst (IndicesBelow (2 ^ 32)) (answer_is (Variable space) variable) fit.indices)
+    pub variable_fits : IndicesBelow (2 ^ 32) (answer changes nodes place) → FitsChange (changes space depth node.number)
+    variable_fits fits =
+        fits_change (changes space depth node.number) node.kind node.name new_kids (subst (IndicesBelow (2 ^ 32)) (answer_is (Variable space) variable) fits)
 
-    pub renumbered_form : (new : List Node) (number : ℕ) → IsFit changes nodes place → IsChange new (answers.Renumbered number) (changes space depth node.number)
-        → HasForm new (length new) (record { kind = node.kind; number = number; name = node.name; kids = node.kids })
-    renumbered_form new number fit is = record {
+    pub renumbered_form : (new : List Node) (number : ℕ) → IsChange new (answers.Renumbered number) (changes space depth node.number)
+        → HasForm (trees_in new) (length new) (record { kind = node.kind; number = number; name = node.name; kids = node.kids })
+    renumbered_form new number is = record {
       kids = subst (All (λ id. id < length new)) (sym no_kids) (All-nil (λ id. id < length new));
       sorts = ap (λ (ids : List ℕ). map sort_of (map (tree_of new) ids)) no_kids ∙ (sym (ap (λ (ids : List ℕ). map sort_of (map (tree_of nodes) ids)) no_kids) ∙ known.form.sorts);
-      number = fits_number new (changes space depth node.number) number is (variable_fits fit);
-      unnumbered = λ e. absurd (true≢false (sym (ap is_numbered variable) ∙ e));
-      unnamed = known.form.unnamed;
-      named = known.form.named;
+      label = record {
+        small = fits_number new (changes space depth node.number) number is;
+        unnumbered = λ e. absurd (true≢false (sym (ap is_numbered variable) ∙ e));
+        unnamed = known.form.label.unnamed;
+        named = known.form.label.named;
+      };
     }
 
     pub renumbered_tree : (new : List Node) (number : ℕ) → IsChange new (answers.Renumbered number) (changes space depth node.number)
@@ -148,13 +156,22 @@ module _ (changes : Changes) (nodes : List Node) (place : Place) (node : Node) (
         ∙ renumbered_is new (changes space depth node.number) number node.kind node.name new_kids is
         ∙ sym (answer_is (Variable space) variable)
 
-    pub replaced_tree : (new : List Node) (id : ℕ) → IsChange new (answers.Replaced id) (changes space depth node.number) → tree_of new id ≡ answer changes nodes place
-    replaced_tree new id is = replaced_is new (changes space depth node.number) id node.kind node.name new_kids is ∙ sym (answer_is (Variable space) variable)
+    pub replaced_answer : (new : List Node) (id : ℕ) → IsChange new (answers.Replaced id) (changes space depth node.number)
+        → (id < length new) × (tree_of new id ≡ answer changes nodes place)
+    replaced_answer new id is = (
+      replaced_live new (changes space depth node.number) id is,
+      replaced_is new (changes space depth node.number) id node.kind node.name new_kids is ∙ sym (answer_is (Variable space) variable),
+    )
+
+  -- a constant or a postulate
+  pub declared_tree : (form node.kind).role ≡ Declared → tree_of nodes place.id ≡ answer changes nodes place
+  declared_tree declared = known.tree ∙ sym (answer_is Declared declared)
 
   -- a node whose kids have their answers
-  module _ (made : Place → Option ℕ) (all : (kid : Place) → IsKid nodes place kid → IsMade made changes nodes nodes kid) where
+  module _ (reach : Space → Option ℕ) (goes : ¬ (IsBeyond reach nodes place)) (made : Place → Option ℕ)
+      (all : (kid : Place) → IsKid reach nodes place kid → IsMade made changes nodes nodes kid) where
     pub below_made : All (IsMade made changes nodes nodes) (places_below place node)
-    below_made k d l = all (get_or (places_below place node) k d) (record { node = node; at = known.at; is = Contains-get_or (places_below place node) k d l })
+    below_made k d l = all (get_or (places_below place node) k d) (record { node = node; at = known.at; goes = goes; is = Contains-get_or (places_below place node) k d l })
 
     module _ (former : (form node.kind).role ≡ Former) (ids : List ℕ) (is : ids ≡ map (new_id made) (places_below place node)) where
       walks : places_below place node ≡ kid_places place (form node.kind).kids node.kids
@@ -166,14 +183,11 @@ module _ (changes : Changes) (nodes : List Node) (place : Place) (node : Node) (
       new_ids : ids ≡ map (new_id made) (kid_places place (form node.kind).kids node.kids)
       new_ids = is ∙ ap (map (new_id made)) walks
 
-      pub remade_form : KeepsSorts changes → HasForm nodes (length nodes) (record { kind = node.kind; number = node.number; name = node.name; kids = ids })
+      pub remade_form : KeepsSorts changes → HasForm (trees_in nodes) (length nodes) (record { kind = node.kind; number = node.number; name = node.name; kids = ids })
       remade_form keeps = record {
         kids = subst (All (λ id. id < length nodes)) (sym new_ids) (made_live made changes nodes place (form node.kind).kids node.kids kids_made);
         sorts = ap (λ (ks : List ℕ). map sort_of (map (tree_of nodes) ks)) new_ids ∙ (made_sorts made changes nodes place keeps (form node.kind).kids node.kids kids_made ∙ known.form.sorts);
-        number = known.form.number;
-        unnumbered = known.form.unnumbered;
-        unnamed = known.form.unnamed;
-        named = known.form.named;
+        label = known.form.label;
       }
 
       pub remade_tree : tree_over (trees_in nodes) (record { kind = node.kind; number = node.number; name = node.name; kids = ids }) ≡ answer changes nodes place
@@ -188,16 +202,11 @@ module _ (made : Place → Option ℕ) (changes later : Changes) (from to : List
       ap (λ (t : Tree). changed later (depth_of place.depth) t) (KeepsTrees-Grows from to grows place.id l)
       ∙ ap (λ (c : Changes). changed c (depth_of place.depth) (tree_of from place.id)) same
 
-  fit_kept : (place : Place) → IsFit changes from place → IsFit later to place
-  fit_kept place fit = record {
-    live = omega (arith, fit.live, length-Grows from to grows);
-    indices = subst (IndicesBelow (2 ^ 32)) (sym (answer_kept place fit.live)) fit.indices;
-  }
-
-  kid_kept : (place kid : Place) → place.id < length from → IsKid to place kid → IsKid from place kid
-  kid_kept place kid l is = record {
+  kid_kept : (reach : Space → Option ℕ) (place kid : Place) → place.id < length from → IsKid reach to place kid → IsKid reach from place kid
+  kid_kept reach place kid l is = record {
     node = is.node;
     at = slice_get-front from grows.added place.id is.node l (subst (λ (ns : List Node). slice_get ns place.id ≡ Some is.node) grows.is is.at);
+    goes = λ beyond. is.goes (λ s. subst (λ t. IfSome (reach s) (λ start. NoneFrom s (start + depth_of place.depth s) t)) (sym (KeepsTrees-Grows from to grows place.id l)) (beyond s));
     is = is.is;
   }
 
@@ -210,38 +219,40 @@ module _ (made : Place → Option ℕ) (changes later : Changes) (from to : List
     tree = done.tree ∙ sym (answer_kept place done.live);
   }
 
-  tree_kept : (place : Place) (new : List Node) (id : ℕ) → IsFit changes from place → tree_of new id ≡ answer later to place → tree_of new id ≡ answer changes from place
-  tree_kept place new id fit e = e ∙ answer_kept place fit.live
-
 -- some places are still to be made, each after its kids, and the others have their answers
-pub record IsMaking (made : Place → Option ℕ) (changes : Changes) (from to : List Node) (every places : List Place) : Type 0 where
+pub record IsMaking (reach : Space → Option ℕ) (made : Place → Option ℕ) (changes : Changes) (from to : List Node) (every places : List Place) : Type 0 where
   pub done : (place : Place) → Contains every place → Contains places place ⊎ IsMade made changes from to place
-  pub settled : AreSettled from places (IsMade made changes from to)
-  pub fits : All (IsFit changes from) places
+  pub among : All (λ place. Contains every place) places
+  pub settled : AreSettled reach from places (IsMade made changes from to)
+  pub live : All (λ (place : Place). place.id < length from) places
   pub grows : Grows from to
+  pub pool : IsPool to
 
-pub IsMaking-start : (made : Place → Option ℕ) (changes : Changes) (from : List Node) (places : List Place) → AreSettled from places (λ _. ⊥) → All (IsFit changes from) places
-    → IsMaking made changes from from places places
-IsMaking-start made changes from places settled fits = record {
+pub IsMaking-start : (reach : Space → Option ℕ) (made : Place → Option ℕ) (changes : Changes) (from : List Node) (places : List Place) → AreSettled reach from places (λ _. ⊥)
+    → All (λ (place : Place). place.id < length from) places → IsPool from → IsMaking reach made changes from from places places
+IsMaking-start reach made changes from places settled live pool = record {
   done = λ place among. inl among;
-  settled = settled_weaker from places (λ _. ⊥) (IsMade made changes from from) (λ q never. absurd never) settled;
-  fits = fits;
+  among = λ k d l. Contains-get_or places k d l;
+  settled = settled_weaker reach from places (λ _. ⊥) (IsMade made changes from from) (λ q never. absurd never) settled;
+  live = live;
   grows = Grows-same from from refl;
+  pool = pool;
 }
 
-pub IsMaking-end : (made : Place → Option ℕ) (changes : Changes) (from to : List Node) (every places : List Place) → IsMaking made changes from to every places → length places ≡ 0
-    → (place : Place) → Contains every place → IsMade made changes from to place
-IsMaking-end made changes from to every places making none place among =
+pub IsMaking-end : (reach : Space → Option ℕ) (made : Place → Option ℕ) (changes : Changes) (from to : List Node) (every places : List Place)
+    → IsMaking reach made changes from to every places → length places ≡ 0 → (place : Place) → Contains every place → IsMade made changes from to place
+IsMaking-end reach made changes from to every places making none place among =
     elim (making.done place among) [ inl left ↦ absurd (omega (arith, left.1)) | inr done ↦ done ]
 
-settled_last : (nodes : List Node) (places : List Place) (part : Place) (S : Place → Type 0) → AreSettled nodes (places ++ part ∷ []) S → (kid : Place) → IsKid nodes part kid → S kid
-settled_last nodes [] part S settled kid is = elim (settled.0 kid is) [ inl after ↦ absurd (omega (arith, after.1)) | inr s ↦ s ]
-settled_last nodes (place ∷ places) part S settled kid is = settled_last nodes places part S settled.1 kid is
+settled_last : (reach : Space → Option ℕ) (nodes : List Node) (places : List Place) (part : Place) (S : Place → Type 0) → AreSettled reach nodes (places ++ part ∷ []) S
+    → (kid : Place) → IsKid reach nodes part kid → S kid
+settled_last reach nodes [] part S settled kid is = elim (settled.0 kid is) [ inl after ↦ absurd (omega (arith, after.1)) | inr s ↦ s ]
+settled_last reach nodes (place ∷ places) part S settled kid is = settled_last reach nodes places part S settled.1 kid is
 
-settled_pop : (nodes : List Node) (places : List Place) (part : Place) (S T : Place → Type 0) → ((q : Place) → S q → T q) → T part
-    → AreSettled nodes (places ++ part ∷ []) S → AreSettled nodes places T
-settled_pop nodes [] part S T more here settled = tt
-settled_pop nodes (place ∷ places) part S T more here settled = (
+settled_pop : (reach : Space → Option ℕ) (nodes : List Node) (places : List Place) (part : Place) (S T : Place → Type 0) → ((q : Place) → S q → T q) → T part
+    → AreSettled reach nodes (places ++ part ∷ []) S → AreSettled reach nodes places T
+settled_pop reach nodes [] part S T more here settled = tt
+settled_pop reach nodes (place ∷ places) part S T more here settled = (
   (λ q is. elim (settled.0 q is) [
     | inl after ↦ elim (Contains-push_cases places part q after) [
       | inl before ↦ inl before
@@ -249,24 +260,24 @@ settled_pop nodes (place ∷ places) part S T more here settled = (
     ]
     | inr s ↦ inr (more q s)
   ]),
-  settled_pop nodes places part S T more here settled.1,
+  settled_pop reach nodes places part S T more here settled.1,
 )
 
 -- the last of the places
-module _ (made : Place → Option ℕ) (changes : Changes) (from to : List Node) (every places : List Place) (part : Place)
-    (making : IsMaking made changes from to every (places ++ part ∷ [])) where
-  last_fits : IsFit changes from part
-  last_fits = each (IsFit changes from) (places ++ part ∷ []) part making.fits (Contains-push places part)
+module _ (reach : Space → Option ℕ) (made : Place → Option ℕ) (changes : Changes) (from to : List Node) (every places : List Place) (part : Place)
+    (making : IsMaking reach made changes from to every (places ++ part ∷ [])) where
+  last_live : part.id < length from
+  last_live = each (λ (place : Place). place.id < length from) (places ++ part ∷ []) part making.live (Contains-push places part)
 
-  last_kids : (kid : Place) → IsKid from part kid → IsMade made changes from to kid
-  last_kids kid is = settled_last from places part (IsMade made changes from to) making.settled kid is
+  last_kids : (kid : Place) → IsKid reach from part kid → IsMade made changes from to kid
+  last_kids kid is = settled_last reach from places part (IsMade made changes from to) making.settled kid is
 
   -- it is made
   module _ (more : Place → Option ℕ) (new : List Node) (id : ℕ) (within : id < length new) (tree : tree_of new id ≡ answer changes from part)
-      (grows : Grows to new) (updates : (q : Place) → more q ≡ cond (eq-value.it part q) (Some id) (made q)) where
+      (grows : Grows to new) (pool : IsPool new) (updates : (q : Place) → more q ≡ cond (eq-value.it part q) (Some id) (made q)) where
     here : IsMade more changes from new part
     here = record {
-      live = last_fits.live;
+      live = last_live;
       id = id;
       at = updates part ∙ ap (λ b. cond b (Some id) (made part)) ((places_Decides part part).1 refl);
       within = within;
@@ -286,7 +297,10 @@ module _ (made : Place → Option ℕ) (changes : Changes) (from to : List Node)
           tree = KeepsTrees-Grows to new grows done.id done.within ∙ done.tree;
         }
 
-    IsMaking-pop : IsMaking more changes from new every places
+    before : (P : Place → Type 0) → All P (places ++ part ∷ []) → All P places
+    before P all k d l = subst P (get_or_append_left places (part ∷ []) d k l) (all k d (omega (arith, length_push places part)))
+
+    IsMaking-pop : IsMaking reach more changes from new every places
     IsMaking-pop = record {
       done = λ q among. elim (making.done q among) [
         | inl listed ↦ elim (Contains-push_cases places part q listed) [
@@ -295,29 +309,41 @@ module _ (made : Place → Option ℕ) (changes : Changes) (from to : List Node)
         ]
         | inr done ↦ inr (still q done)
       ];
-      settled = settled_pop from places part (IsMade made changes from to) (IsMade more changes from new) still here making.settled;
-      fits = λ k d l. subst (IsFit changes from) (get_or_append_left places (part ∷ []) d k l) (making.fits k d (omega (arith, length_push places part)));
+      among = before (λ place. Contains every place) making.among;
+      settled = settled_pop reach from places part (IsMade made changes from to) (IsMade more changes from new) still here making.settled;
+      live = before (λ (place : Place). place.id < length from) making.live;
       grows = Grows-trans from to new making.grows grows;
+      pool = pool;
     }
 
 -- the last of the places, in the pool as it is by then
-module _ (made : Place → Option ℕ) (changes later : Changes) (from to : List Node) (every all places : List Place) (part : Place)
-    (going : IsMaking made changes from to every all) (popped : all ≡ places ++ part ∷ []) (same : later ≡ changes) where
-  making : IsMaking made changes from to every (places ++ part ∷ [])
-  making = subst (IsMaking made changes from to every) popped going
+module _ (reach : Space → Option ℕ) (made : Place → Option ℕ) (changes later : Changes) (from to : List Node) (every all places : List Place) (part : Place)
+    (going : IsMaking reach made changes from to every all) (popped : all ≡ places ++ part ∷ []) (same : later ≡ changes) where
+  making : IsMaking reach made changes from to every (places ++ part ∷ [])
+  making = subst (IsMaking reach made changes from to every) popped going
 
-  fits : IsFit changes from part
-  fits = last_fits made changes from to every places part making
+  live : part.id < length from
+  live = last_live reach made changes from to every places part making
 
-  pub fits_now : IsFit later to part
-  fits_now = fit_kept made changes later from to going.grows same part fits
+  answer_now : answer later to part ≡ answer changes from part
+  answer_now = answer_kept made changes later from to going.grows same part live
 
-  pub kids_now : (kid : Place) → IsKid to part kid → IsMade made later to to kid
+  pub live_now : part.id < length to
+  live_now = omega (arith, live, length-Grows from to going.grows)
+
+  pub kids_now : (kid : Place) → IsKid reach to part kid → IsMade made later to to kid
   kids_now kid is =
       made_kept made changes later from to going.grows same kid
-      (last_kids made changes from to every places part making kid (kid_kept made changes later from to going.grows same part kid fits.live is))
+      (last_kids reach made changes from to every places part making kid (kid_kept made changes later from to going.grows same reach part kid live is))
 
-  pub made_now : (more : Place → Option ℕ) (new : List Node) (id : ℕ) → id < length new → tree_of new id ≡ answer later to part → Grows to new
-      → ((q : Place) → more q ≡ cond (eq-value.it part q) (Some id) (made q)) → IsMaking more changes from new every places
-  made_now more new id within tree grows updates =
-      IsMaking-pop made changes from to every places part making more new id within (tree_kept made changes later from to going.grows same part new id fits tree) grows updates
+  pub misfit_now : ¬ (IndicesBelow (2 ^ 32) (answer later to part)) → HasMisfit changes from every
+  misfit_now large = record {
+    place = part;
+    listed = each (λ place. Contains every place) (places ++ part ∷ []) part making.among (Contains-push places part);
+    large = λ fits. large (subst (IndicesBelow (2 ^ 32)) (sym answer_now) fits);
+  }
+
+  pub made_now : (more : Place → Option ℕ) (new : List Node) (id : ℕ) → (id < length new) × (tree_of new id ≡ answer later to part) → Grows to new → IsPool new
+      → ((q : Place) → more q ≡ cond (eq-value.it part q) (Some id) (made q)) → IsMaking reach more changes from new every places
+  made_now more new id is grows pool updates =
+      IsMaking-pop reach made changes from to every places part making more new id is.0 (is.1 ∙ answer_now) grows pool updates

@@ -16,7 +16,8 @@ use Rattle.rz_pool.proofs.Orders.{equal_numbers, same_number}
 use Rattle.rz_subst.specs.declared.walk.Place.{Place}
 use Rattle.rz_subst.specs.contracts.walk.PlaceOrd.TheImpl.{cmp-value}
 use Rattle.rz_subst.specs.contracts.walk.PlacePartialEq.TheImpl.{eq-value}
-use Rattle.rz_subst.specs.Walk.{depth_of, top_place, kid_place, kid_places, Joined}
+use Rattle.rz_pool.specs.Counts.{depth_of}
+use Rattle.rz_subst.specs.Walk.{top_place, kid_place, kid_places, Joined}
 
 pub same_counts : (a b : Place) → a.id ≡ b.id → a.depth.points ≡ b.depth.points → a.depth.terms ≡ b.depth.terms → a ≡ b
 same_counts a b id points terms = λ i. record { id = id i; depth = record { points = points i; terms = terms i } }

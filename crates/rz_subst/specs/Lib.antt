@@ -1,3 +1,3 @@
 pub mod Walk
 pub mod Sorts
-pub mod Room
+pub mod Within

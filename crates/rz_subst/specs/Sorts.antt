@@ -45,20 +45,20 @@ choice true b sort tree n m h = tt
 choice false true sort tree n m h = h
 choice false false sort tree n m h = tt
 
-pub KeepsSorts-putting : (space : Space) (value : Tree) → sort_of value ≡ sort_in space → KeepsSorts (putting space none value)
-KeepsSorts-putting space value h other depth number = by space other h
+pub KeepsSorts-putting : (space : Space) (at : Depth) (value : Tree) → sort_of value ≡ sort_in space → KeepsSorts (putting space at value)
+KeepsSorts-putting space at value h other depth number = by space other h
   where
-    raised : (sort : Sort) → sort_of value ≡ sort → sort_of (weakened (total none depth) value) ≡ sort
-    raised sort h = sort_changed (raising none (total none depth)) (KeepsSorts-raising none (total none depth)) none value ∙ h
+    raised : (sort : Sort) → sort_of value ≡ sort → sort_of (weakened (total at depth) value) ≡ sort
+    raised sort h = sort_changed (raising none (total at depth)) (KeepsSorts-raising none (total at depth)) none value ∙ h
 
-    by : (space other : Space) → sort_of value ≡ sort_in space → HasSort (sort_in other) (putting space none value other depth number)
-    by Points Points h = choice (nat_lt number (none Points + depth Points)) (number == none Points + depth Points) (sort_in Points) (weakened (total none depth) value) number (number - 1) (raised (sort_in Points) h)
+    by : (space other : Space) → sort_of value ≡ sort_in space → HasSort (sort_in other) (putting space at value other depth number)
+    by Points Points h = choice (nat_lt number (at Points + depth Points)) (number == at Points + depth Points) (sort_in Points) (weakened (total at depth) value) number (number - 1) (raised (sort_in Points) h)
     by Points Terms h = tt
     by Terms Points h = tt
-    by Terms Terms h = choice (nat_lt number (none Terms + depth Terms)) (number == none Terms + depth Terms) (sort_in Terms) (weakened (total none depth) value) number (number - 1) (raised (sort_in Terms) h)
+    by Terms Terms h = choice (nat_lt number (at Terms + depth Terms)) (number == at Terms + depth Terms) (sort_in Terms) (weakened (total at depth) value) number (number - 1) (raised (sort_in Terms) h)
 
-pub kept-putting : (space : Space) (value : ℕ) (old new : List Node) → IsValue space value old → Grows old new
-    → IsValue space value new × (putting space none (tree_of new value) ≡ putting space none (tree_of old value))
-kept-putting space value old new (live, sort) grows =
+pub kept-putting : (space : Space) (at : Depth) (value : ℕ) (old new : List Node) → IsValue space value old → Grows old new
+    → IsValue space value new × (putting space at (tree_of new value) ≡ putting space at (tree_of old value))
+kept-putting space at value old new (live, sort) grows =
     let same : tree_of new value ≡ tree_of old value = KeepsTrees-Grows old new grows value live in
-    ((omega (arith, length-Grows old new grows), ap sort_of same ∙ sort), ap (putting space none) same)
+    ((omega (arith, length-Grows old new grows), ap sort_of same ∙ sort), ap (putting space at) same)

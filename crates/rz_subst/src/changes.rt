@@ -1,14 +1,16 @@
 //! The two things that can become of the variables: they rise, or a value takes the place of one.
 
-ghost use Rattle.std.specs.Prelude.{◌≡◌, ◌<◌, ◌^◌, length, IfOk, refl};
+ghost use Rattle.std.specs.Prelude.{◌≡◌, ◌+◌, ◌<◌, ◌≤◌, ◌^◌, ◌↔◌, length, IsSome, IfOk, IfSome, MatchOption, Some, None, refl};
 ghost use Rattle.rz_rules.specs.Tree.{sort_of, tree_of};
-ghost use Rattle.rz_rules.specs.Substitution.{IndicesBelow, none, only, raising, weakened, putting, shift, put, same_space};
-ghost use Rattle.rz_pool.specs.Pool.{Grows};
-ghost use Rattle.rz_subst.specs.Walk.{depth_of, sort_in, IsValue};
+ghost use Rattle.rz_rules.specs.Substitution.{IndicesBelow, none, only, total, raising, weakened, putting, shift, put, same_space};
+ghost use Rattle.rz_pool.specs.Counts.{depth_of};
+ghost use Rattle.rz_pool.specs.Pool.{Grows, IsPool};
+ghost use Rattle.rz_subst.specs.Walk.{sort_in, raised_from, raising_reach, putting_reach, IsAnswerOf, IsNewNumber, IsValue};
 ghost use Rattle.rz_subst.specs.Sorts.{KeepsSorts-raising, KeepsSorts-putting, kept-putting};
+ghost use Rattle.rz_subst.specs.Within.{IsWithin-raising, IsWithin-putting};
 
-use crate::walk::{Change, Changing, Counts, rebuild};
-use rz_pool::Pool;
+use crate::walk::{Change, Changing, Reach, rebuild};
+use rz_pool::{Counts, Pool};
 use rz_rules::{OutOfMemory, Space};
 use std::alloc::Global;
 
@@ -19,23 +21,55 @@ pub struct Raising {
     pub by: Counts,
 }
 
-/// A value takes the place of the variable that is bound just outside of the tree; those further
-/// out lose one.
+/// A value takes the place of a variable that is bound outside of the tree; those further out lose
+/// one.
 #[derive(Drop)]
 pub struct Putting {
     pub space: Space,
+    /// How many variables of each space are bound between the tree and the variable.
+    pub at: Counts,
     /// The value's id.
     pub value: u64,
 }
 
+/// From where on the variables of a space change, that rise by so many.
+fn start(from: u64, by: u64) -> Option<u64>
+    ensures { result ≡ raised_from from by }
+{
+    if by == 0 { None } else { Some(from) }
+}
+
+/// The number of a variable that rises, where it isn't too large.
+fn new_number(number: u64, by: u64) -> Option<Change>
+    ensures { IsNewNumber (number + by) result }
+{
+    let number = number.checked_add(by)?;
+    if number < 1 << 32 {
+        Some(Change::Renumbered(number))
+    } else {
+        None
+    }
+}
+
 impl Changing for Raising {
     ghost changes = { λ it nodes. raising (depth_of it.from) (depth_of it.by) };
+
+    ghost reach = { λ it. raising_reach it.from it.by };
 
     ghost is_there = { λ it nodes. Unit {0} };
 
     ghost kept = { λ it old new there grows. (tt, refl) };
 
     ghost sorts = { λ it nodes there. KeepsSorts-raising (depth_of it.from) (depth_of it.by) };
+
+    ghost stays = { λ it nodes. IsWithin-raising it.from it.by };
+
+    fn reach(&self) -> Reach {
+        Reach {
+            points: start(self.from.points, self.by.points),
+            terms: start(self.from.terms, self.by.terms),
+        }
+    }
 
     fn variable(
         &self,
@@ -44,25 +78,44 @@ impl Changing for Raising {
         space: Space,
         depth: Counts,
         number: u64,
-    ) -> Result<Change, OutOfMemory> {
+    ) -> Result<Option<Change>, OutOfMemory> {
         let above = depth.of(space);
         let reached = number >= above && number - above >= self.from.of(space);
-        Ok(Change::Renumbered(if reached {
-            number + self.by.of(space)
+        Ok(if reached {
+            new_number(number, self.by.of(space))
         } else {
-            number
-        }))
+            Some(Change::Renumbered(number))
+        })
     }
 }
 
 impl Changing for Putting {
-    ghost changes = { λ it nodes. putting it.space none (tree_of nodes it.value) };
+    ghost changes = { λ it nodes. putting it.space (depth_of it.at) (tree_of nodes it.value) };
+
+    ghost reach = { λ it. putting_reach it.space it.at };
 
     ghost is_there = { λ it nodes. IsValue it.space it.value nodes };
 
-    ghost kept = { λ it old new there grows. kept-putting it.space it.value old new there grows };
+    ghost kept = { λ it old new there grows.
+        kept-putting it.space (depth_of it.at) it.value old new there grows };
 
-    ghost sorts = { λ it nodes there. KeepsSorts-putting it.space (tree_of nodes it.value) there.1 };
+    ghost sorts = { λ it nodes there.
+        KeepsSorts-putting it.space (depth_of it.at) (tree_of nodes it.value) there.1 };
+
+    ghost stays = { λ it nodes. IsWithin-putting it.space it.at (tree_of nodes it.value) };
+
+    fn reach(&self) -> Reach {
+        match self.space {
+            Space::Points => Reach {
+                points: Some(self.at.points),
+                terms: None,
+            },
+            Space::Terms => Reach {
+                points: None,
+                terms: Some(self.at.terms),
+            },
+        }
+    }
 
     fn variable(
         &self,
@@ -71,30 +124,44 @@ impl Changing for Putting {
         space: Space,
         depth: Counts,
         number: u64,
-    ) -> Result<Change, OutOfMemory> {
-        let above = depth.of(space);
-        if self.space != space || number < above {
-            return Ok(Change::Renumbered(number));
+    ) -> Result<Option<Change>, OutOfMemory> {
+        let at = further_in(self.at, depth)?;
+        let above = at.of(space);
+        if self.space != space {
+            return Ok(Some(Change::Renumbered(number)));
+        }
+        if number < above {
+            return Ok(Some(Change::Renumbered(number)));
         }
         if number > above {
-            return Ok(Change::Renumbered(number - 1));
+            return Ok(Some(Change::Renumbered(number - 1)));
         }
-        Ok(Change::Replaced(weaken(alloc, pool, self.value, depth)?))
+        match weaken(alloc, pool, self.value, at)? {
+            Some(raised) => Ok(Some(Change::Replaced(raised))),
+            None => Ok(None),
+        }
     }
 }
 
-/// The id of a tree as it is read so much further in.
-fn weaken(alloc: Global, pool: &mut Pool, id: u64, by: Counts) -> Result<u64, OutOfMemory>
-    requires live { id < length pool.old.nodes }
-    requires indices { IndicesBelow (2 ^ 32) (weakened (depth_of by) (tree_of pool.old.nodes id)) }
-    ensures within { IfOk result (λ new. new < length pool.new.nodes) }
-    ensures tree { IfOk result (λ new. tree_of pool.new.nodes new ≡ weakened (depth_of by) (tree_of pool.old.nodes id)) }
-    ensures grows { Grows pool.old.nodes pool.new.nodes }
+/// So many variables of each space, and then so many more. A count that doesn't fit is no count of
+/// things in memory.
+fn further_in(at: Counts, depth: Counts) -> Result<Counts, OutOfMemory>
+    ensures { IfOk result (λ sum. depth_of sum ≡ total (depth_of at) (depth_of depth)) }
 {
-    // To rise by nothing changes nothing.
-    if by == Counts::NONE {
-        return Ok(id);
-    }
+    Ok(Counts {
+        points: at.points.checked_add(depth.points).ok_or(OutOfMemory)?,
+        terms: at.terms.checked_add(depth.terms).ok_or(OutOfMemory)?,
+    })
+}
+
+/// The id of a tree as it is read so much further in; `None` where an index would be too large.
+fn weaken(alloc: Global, pool: &mut Pool, id: u64, by: Counts) -> Result<Option<u64>, OutOfMemory>
+    requires live { id < length pool.old.nodes }
+    ensures answer { IfOk result (IsAnswerOf pool.new.nodes
+        (weakened (depth_of by) (tree_of pool.old.nodes id))) }
+    ensures grows { Grows pool.old.nodes pool.new.nodes }
+    ensures pool { IsPool pool.new.nodes }
+{
     let raising = Raising {
         from: Counts::NONE,
         by,
@@ -102,7 +169,10 @@ fn weaken(alloc: Global, pool: &mut Pool, id: u64, by: Counts) -> Result<u64, Ou
     rebuild(alloc, pool, &raising, id)
 }
 
-/// The id of a tree whose variables of a space from an index on have risen.
+/// Shifts the variables of a space in a tree, and answers the new tree's id.
+///
+/// Those that the tree doesn't bind itself and whose index is at least `from` rise by `by`; the
+/// others stay. The answer is `None` exactly where some index in the new tree would reach 2^32.
 pub fn shift(
     alloc: Global,
     pool: &mut Pool,
@@ -110,13 +180,17 @@ pub fn shift(
     id: u64,
     from: u64,
     by: u64,
-) -> Result<u64, OutOfMemory>
+) -> Result<Option<u64>, OutOfMemory>
     requires live { id < length pool.old.nodes }
-    requires indices { IndicesBelow (2 ^ 32) (shift space from by (tree_of pool.old.nodes id)) }
-    ensures within { IfOk result (λ new. new < length pool.new.nodes) }
-    ensures tree { IfOk result (λ new. tree_of pool.new.nodes new ≡ shift space from by (tree_of pool.old.nodes id)) }
-    ensures sort { IfOk result (λ new. sort_of (tree_of pool.new.nodes new) ≡ sort_of (tree_of pool.old.nodes id)) }
+    ensures fits { IfOk result (λ new. IsSome new
+        ↔ IndicesBelow (2 ^ 32) (shift space from by (tree_of pool.old.nodes id))) }
+    ensures within { IfOk result (λ new. IfSome new (λ new. new < length pool.new.nodes)) }
+    ensures tree { IfOk result (λ new. IfSome new (λ new. tree_of pool.new.nodes new
+        ≡ shift space from by (tree_of pool.old.nodes id))) }
+    ensures sort { IfOk result (λ new. IfSome new (λ new. sort_of (tree_of pool.new.nodes new)
+        ≡ sort_of (tree_of pool.old.nodes id))) }
     ensures grows { Grows pool.old.nodes pool.new.nodes }
+    ensures pool { IsPool pool.new.nodes }
 {
     let raising = Raising {
         from: Counts::only(space, from),
@@ -125,22 +199,33 @@ pub fn shift(
     rebuild(alloc, pool, &raising, id)
 }
 
-/// The id of a tree in which a value stands for the variable of a space that is bound just outside.
+/// Puts a value for a variable of a space in a body, and answers the new tree's id.
+///
+/// The variable is the first of the space behind the first `at` variables of each space, and the
+/// value is read behind those as well: it rises by `at`. Further variables of the space lose one.
+/// The answer is `None` exactly where some index in the new tree would reach 2^32.
 pub fn put(
     alloc: Global,
     pool: &mut Pool,
     space: Space,
+    at: Counts,
     body: u64,
     value: u64,
-) -> Result<u64, OutOfMemory>
+) -> Result<Option<u64>, OutOfMemory>
     requires live { body < length pool.old.nodes }
     requires value { value < length pool.old.nodes }
     requires sort { sort_of (tree_of pool.old.nodes value) ≡ sort_in space }
-    requires indices { IndicesBelow (2 ^ 32) (put space none (tree_of pool.old.nodes value) (tree_of pool.old.nodes body)) }
-    ensures within { IfOk result (λ new. new < length pool.new.nodes) }
-    ensures tree { IfOk result (λ new. tree_of pool.new.nodes new ≡ put space none (tree_of pool.old.nodes value) (tree_of pool.old.nodes body)) }
-    ensures sort { IfOk result (λ new. sort_of (tree_of pool.new.nodes new) ≡ sort_of (tree_of pool.old.nodes body)) }
+    ensures fits { IfOk result (λ new. IsSome new
+        ↔ IndicesBelow (2 ^ 32) (put space (depth_of at) (tree_of pool.old.nodes value)
+        (tree_of pool.old.nodes body))) }
+    ensures within { IfOk result (λ new. IfSome new (λ new. new < length pool.new.nodes)) }
+    ensures tree { IfOk result (λ new. IfSome new (λ new. tree_of pool.new.nodes new
+        ≡ put space (depth_of at) (tree_of pool.old.nodes value)
+        (tree_of pool.old.nodes body))) }
+    ensures sort { IfOk result (λ new. IfSome new (λ new. sort_of (tree_of pool.new.nodes new)
+        ≡ sort_of (tree_of pool.old.nodes body))) }
     ensures grows { Grows pool.old.nodes pool.new.nodes }
+    ensures pool { IsPool pool.new.nodes }
 {
-    rebuild(alloc, pool, &Putting { space, value }, body)
+    rebuild(alloc, pool, &Putting { space, at, value }, body)
 }

@@ -1,4 +1,5 @@
-//! The laws of shifts and of substitution, for all trees and both spaces. A function of this module does nothing: its
+//! The laws of shifts and of substitution, for all trees and both spaces. A function of this module
+//! does nothing: its
 //! clauses are the law.
 
 ghost use Rattle.std.specs.Prelude.{◌≡◌, ◌+◌, ◌≤◌, ℕ, false};
@@ -20,31 +21,39 @@ pub fn shifts_commute()
         → shift s from by (shift o later more t) ≡ shift o later more (shift s from by t) }
 {}
 
-/// A shift and a substitution commute, in one space and in two: where the shift begins outside of the place of the value,
+/// A shift and a substitution commute, in one space and in two: where the shift begins outside of
+/// the place of the value,
 /// and where it begins inside.
 pub fn shift_and_put_commute()
     ensures above { (o s : Space) (at : Depth) (more by : ℕ) (value t : Tree)
-        → shift o (at o + more) by (put s at value t) ≡ put s at (shift o more by value) (shift o (at o + more + only s 1 o) by t) }
+        → shift o (at o + more) by (put s at value t)
+        ≡ put s at (shift o more by value) (shift o (at o + more + only s 1 o) by t) }
     ensures below { (o s : Space) (at : Depth) (from by : ℕ) (value t : Tree) → from ≤ at o
-        → shift o from by (put s at value t) ≡ put s (total at (only o by)) value (shift o from by t) }
+        → shift o from by (put s at value t)
+        ≡ put s (total at (only o by)) value (shift o from by t) }
 {}
 
 /// Two substitutions commute, in one space and in two.
 pub fn puts_commute()
     ensures { (o s : Space) (at more : Depth) (outer inner t : Tree)
-        → put o (total at more) outer (put s at inner t) ≡ put s at (put o more outer inner) (put o (total (total at more) (only s 1)) outer t) }
+        → put o (total at more) outer (put s at inner t)
+        ≡ put s at (put o more outer inner) (put o (total (total at more) (only s 1)) outer t) }
 {}
 
 /// A tree without variables of a space from an index on is left as it is.
 pub fn closed_trees_stay()
-    ensures shift { (s : Space) (from by : ℕ) (t : Tree) → NoneFrom s from t → shift s from by t ≡ t }
-    ensures put { (s : Space) (at : Depth) (value t : Tree) → NoneFrom s (at s) t → put s at value t ≡ t }
+    ensures shift { (s : Space) (from by : ℕ) (t : Tree) → NoneFrom s from t
+        → shift s from by t ≡ t }
+    ensures put { (s : Space) (at : Depth) (value t : Tree) → NoneFrom s (at s) t
+        → put s at value t ≡ t }
 {}
 
-/// To rise by nothing changes nothing, to weaken twice is to weaken by the sum, and to weaken is to shift in each space.
+/// To rise by nothing changes nothing, to weaken twice is to weaken by the sum, and to weaken is to
+/// shift in each space.
 pub fn weakening_adds_up()
     ensures shift_zero { (s : Space) (from : ℕ) (t : Tree) → shift s from 0 t ≡ t }
     ensures nothing { (t : Tree) → weakened none t ≡ t }
     ensures twice { (a b : Depth) (t : Tree) → weakened a (weakened b t) ≡ weakened (total a b) t }
-    ensures shifts { (by : Depth) (t : Tree) → weakened by t ≡ shift Points 0 (by Points) (shift Terms 0 (by Terms) t) }
+    ensures shifts { (by : Depth) (t : Tree) → weakened by t
+        ≡ shift Points 0 (by Points) (shift Terms 0 (by Terms) t) }
 {}

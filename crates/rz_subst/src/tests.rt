@@ -1,14 +1,11 @@
 //! Substitutions by hand. A tree is written in prefix notation, in the words of the node table.
 
-ghost use Rattle.std.specs.Prelude.{◌≡◌, ◌<◌, ℕ, IsTrue, IfOk, length};
-ghost use Rattle.rz_subst.specs.Room.{IsSmall};
-
 use crate::laws::{
     closed_trees_stay, put_after_shift, puts_commute, shift_and_put_commute, shifts_commute,
     weakening_adds_up,
 };
 use crate::{put_point, put_term, shift_points, shift_terms};
-use rz_pool::Pool;
+use rz_pool::{Counts, Pool};
 use rz_rules::{Kids, Kind, Name, Node, Sort, Space, Worded};
 use std::alloc::Global;
 use std::process::Abort;
@@ -314,21 +311,6 @@ const POINTS_UP: &[(&str, &str)] = &[
     ("v 0", "v 0"),
 ];
 
-/// Whether the pool is so small that no index of an answer can be too large.
-fn is_small(pool: &Pool) -> bool
-    ensures { IsTrue result → IsSmall pool.now.nodes }
-{
-    if pool.len() > 1 << 20 {
-        return false;
-    }
-    for id in 0..pool.len() {
-        if pool.node(id).number > 1 << 20 {
-            return false;
-        }
-    }
-    true
-}
-
 /// Makes a node of a kind, whose kids are on the stack, the first on top.
 fn make(
     rt: &impl Abort,
@@ -373,7 +355,7 @@ fn read(rt: &impl Abort, alloc: Global, pool: &mut Pool, text: &str) -> Result<u
     Ok(stack.pop().ok_or("no tree")?)
 }
 
-/// Puts a value into a body, by the call for the space.
+/// Puts a value into a body, by the general call and by that for the space.
 fn put(
     rt: &impl Abort,
     alloc: Global,
@@ -382,23 +364,28 @@ fn put(
     body: u64,
     value: u64,
 ) -> Result<u64, Fail> {
-    assert!(rt; is_small(pool));
     assert!(rt; body < pool.len());
     assert!(rt; value < pool.len());
     let sort = pool.node(value).kind.form().sort;
     match space {
         Space::Points => {
             assert!(rt; sort == Sort::Point);
-            Ok(put_point(alloc, pool, body, value)?)
+            let new = crate::put(alloc, pool, space, Counts::NONE, body, value)?;
+            assert!(rt; new.is_some());
+            assert_eq!(rt; Some(put_point(alloc, pool, body, value)?), new);
+            Ok(new.ok_or("none")?)
         }
         Space::Terms => {
             assert!(rt; sort == Sort::Term);
-            Ok(put_term(alloc, pool, body, value)?)
+            let new = crate::put(alloc, pool, space, Counts::NONE, body, value)?;
+            assert!(rt; new.is_some());
+            assert_eq!(rt; Some(put_term(alloc, pool, body, value)?), new);
+            Ok(new.ok_or("none")?)
         }
     }
 }
 
-/// Shifts a tree from an index on, by the call for the space.
+/// Shifts a tree from an index on, by the general call and by that for the space.
 fn shift(
     rt: &impl Abort,
     alloc: Global,
@@ -408,13 +395,38 @@ fn shift(
     from: u64,
     by: u64,
 ) -> Result<u64, Fail> {
-    assert!(rt; is_small(pool));
-    assert!(rt; by < 1 << 20);
     assert!(rt; id < pool.len());
-    Ok(match space {
+    let new = crate::shift(alloc, pool, space, id, from, by)?;
+    assert!(rt; new.is_some());
+    let again = match space {
         Space::Points => shift_points(alloc, pool, id, from, by)?,
         Space::Terms => shift_terms(alloc, pool, id, from, by)?,
-    })
+    };
+    assert_eq!(rt; Some(again), new);
+    Ok(again)
+}
+
+/// Trees that are shifted by so many from 0 on, and whether each index stays below the limit.
+const LIMITS: &[(&str, u64, bool)] = &[
+    ("v 4294967294", 1, true),
+    ("v 4294967295", 0, true),
+    ("v 4294967295", 1, false),
+    ("v 0", 18446744073709551615, false),
+    ("pi U v 0", 18446744073709551615, true),
+    ("pi U v 1", 18446744073709551615, false),
+];
+
+#[test]
+fn large_indices(rt: HostRuntime) -> Result<(), Fail> {
+    let alloc = rt.alloc();
+    let mut pool = Pool::new(alloc);
+    for (tree, by, fits) in LIMITS {
+        let id = read(&rt, alloc, &mut pool, tree)?;
+        assert!(rt; id < pool.len());
+        let new = crate::shift(alloc, &mut pool, Space::Terms, id, 0, *by)?;
+        assert_eq!(rt; new.is_some(), *fits, "{tree}");
+    }
+    Ok(())
 }
 
 fn check_put(

@@ -1,32 +1,35 @@
 //! The walk over a shared tree, whatever becomes of its variables.
 
-ghost use Rattle.std.specs.Prelude.{◌≡◌, ◌+◌, ◌<◌, ◌≤◌, ◌^◌, IfOk, OnOk, IsSome, All, Contains, List, ℕ, Some, length, map};
+ghost use Rattle.std.specs.Prelude.{◌≡◌, ◌+◌, ◌<◌, ◌≤◌, ◌^◌, ◌↔◌, IsTrue, IfOk, OnOk, IfSome, IfNone, IsSome, All, Contains, List, ℕ, Some, length, map};
 ghost use Rattle.std.specs.BTreeSet.{contains};
 ghost use Rattle.std.specs.HashMap.{get};
 ghost use Rattle.rz_rules.specs.declared.nodes.Node.{Node};
 ghost use Rattle.rz_rules.specs.Form.{form};
 ghost use Rattle.rz_rules.specs.Tree.{sort_of, tree_of};
 ghost use Rattle.rz_rules.specs.Substitution.{Changes, IndicesBelow, changed, none, only};
-ghost use Rattle.rz_pool.specs.Pool.{Grows};
-ghost use Rattle.rz_subst.specs.Walk.{depth_of, kid_place, kid_places, top_place, places_below, answer, IsChange, FitsChange, IsFit, KeepsSorts, AreSettled, ListsPlaces, Joined, IsKid, IsMade, new_id};
+ghost use Rattle.rz_pool.specs.Counts.{depth_of};
+ghost use Rattle.rz_pool.specs.Pool.{Grows, IsPool};
+ghost use Rattle.rz_subst.specs.declared.walk.Reach.{Reach};
+ghost use Rattle.rz_subst.specs.Walk.{kid_place, kid_places, top_place, places_below, reach_of, StaysIn, IsBeyond, IsWithin, answer, IsChange, IsAnswer, IsAnswerOf, FitsChange, KeepsSorts, AreSettled, AreNext, ListsPlaces, HasMisfit, Joined, IsKid, IsMade, new_id};
 
-use rz_pool::Pool;
+use rz_pool::{Counts, HashKey, Pool};
 use rz_rules::{Kids, Node, OutOfMemory, Role, Slot, Space};
 use std::alloc::Global;
 use std::collections::{BTreeSet, HashMap};
-
-/// For each space a count of variables.
-#[derive(Clone, Copy, Debug, PartialEq, Eq, PartialOrd, Ord, Hash)]
-pub struct Counts {
-    pub points: u64,
-    pub terms: u64,
-}
 
 /// A node of a tree: its id, and how many variables are bound above it.
 #[derive(Clone, Copy, Debug, PartialEq, Eq, PartialOrd, Ord, Hash)]
 pub struct Place {
     pub id: u64,
     pub depth: Counts,
+}
+
+/// For each space from how many binders outside of a tree on its variables may change, where any
+/// may.
+#[derive(Clone, Copy)]
+pub struct Reach {
+    pub points: Option<u64>,
+    pub terms: Option<u64>,
 }
 
 /// What becomes of a variable.
@@ -37,31 +40,10 @@ pub enum Change {
     Replaced(u64),
 }
 
-impl Counts {
-    pub const NONE: Counts = Counts {
-        points: 0,
-        terms: 0,
-    };
-
-    /// A count in one space, and none in the other.
-    pub fn only(space: Space, count: u64) -> Counts
-        ensures { depth_of result ≡ only space count }
-    {
-        match space {
-            Space::Points => Counts {
-                points: count,
-                terms: 0,
-            },
-            Space::Terms => Counts {
-                points: 0,
-                terms: count,
-            },
-        }
-    }
-
-    /// The count in a space.
-    pub fn of(self, space: Space) -> u64
-        ensures { result ≡ depth_of self space }
+impl Reach {
+    /// From where on the variables of a space may change.
+    pub fn of(self, space: Space) -> Option<u64>
+        ensures { result ≡ reach_of self space }
     {
         match space {
             Space::Points => self.points,
@@ -129,7 +111,8 @@ impl Place {
 
 /// Adds places to those that wait.
 fn add_all(waiting: &mut BTreeSet<Place>, places: &[Place]) -> Result<(), OutOfMemory>
-    ensures { OnOk result (Joined (contains ⟦<Place as Ord>⟧.cmp waiting.old) (contains ⟦<Place as Ord>⟧.cmp waiting.new) places.now) }
+    ensures { OnOk result (Joined (contains ⟦<Place as Ord>⟧.cmp waiting.old)
+        (contains ⟦<Place as Ord>⟧.cmp waiting.new) places.now) }
 {
     for place in places {
         waiting.insert(*place)?;
@@ -137,16 +120,57 @@ fn add_all(waiting: &mut BTreeSet<Place>, places: &[Place]) -> Result<(), OutOfM
     Ok(())
 }
 
+/// Whether no variable of a space in the tree at a place may change.
+fn stays_in(pool: &Pool, reach: Reach, place: Place, space: Space) -> bool
+    requires { place.id < length pool.now.nodes }
+    ensures stays { IsTrue result ↔ StaysIn (reach_of reach) pool.now.nodes place space }
+    ensures pool { IsPool pool.now.nodes }
+{
+    let bound = pool.free_bound(space, place.id);
+    match reach.of(space) {
+        Some(start) => bound.saturating_sub(place.depth.of(space)) <= start,
+        None => true,
+    }
+}
+
+/// Whether no variable in the tree at a place may change.
+fn is_beyond(pool: &Pool, reach: Reach, place: Place) -> bool
+    requires { place.id < length pool.now.nodes }
+    ensures beyond { IsTrue result ↔ IsBeyond (reach_of reach) pool.now.nodes place }
+    ensures pool { IsPool pool.now.nodes }
+{
+    let points = stays_in(pool, reach, place, Space::Points);
+    let terms = stays_in(pool, reach, place, Space::Terms);
+    points && terms
+}
+
+/// The kids of the node at a place to which the walk goes on: none where nothing changes.
+fn next_places(
+    alloc: Global,
+    pool: &Pool,
+    reach: Reach,
+    place: Place,
+) -> Result<Vec<Place>, OutOfMemory>
+    requires { place.id < length pool.now.nodes }
+    ensures { IfOk result (λ places. AreNext (reach_of reach) pool.now.nodes place places.items) }
+{
+    if is_beyond(pool, reach, place) {
+        return Ok(Vec::new(alloc));
+    }
+    place.below(alloc, pool.node(place.id))
+}
+
 /// The whole tree of an id and all places below it to which the walk goes, the greatest ids first.
-fn places(alloc: Global, pool: &Pool, id: u64) -> Result<Vec<Place>, OutOfMemory>
+fn places(alloc: Global, pool: &Pool, reach: Reach, id: u64) -> Result<Vec<Place>, OutOfMemory>
     requires { id < length pool.now.nodes }
-    ensures { IfOk result (λ places. ListsPlaces pool.now.nodes (top_place id) places.items) }
+    ensures { IfOk result (λ places.
+        ListsPlaces (reach_of reach) pool.now.nodes (top_place id) places.items) }
 {
     let mut waiting = BTreeSet::new(alloc);
     waiting.insert(Place::top(id))?;
     let mut places = Vec::new(alloc);
     while let Some(place) = waiting.pop_last() {
-        let below = place.below(alloc, pool.node(place.id))?;
+        let below = next_places(alloc, pool, reach, place)?;
         add_all(&mut waiting, &below)?;
         places.push(place)?;
     }
@@ -154,7 +178,7 @@ fn places(alloc: Global, pool: &Pool, id: u64) -> Result<Vec<Place>, OutOfMemory
 }
 
 /// The new ids of these places, each of which has one.
-fn made_kids(places: &[Place], made: &HashMap<Place, u64>) -> Kids
+fn made_kids(places: &[Place], made: &HashMap<Place, u64, HashKey>) -> Kids
     requires few { length places.now ≤ 7 }
     requires made { All (λ kid. IsSome (get ⟦<Place as PartialEq>⟧.eq made.now kid)) places.now }
     ensures { result ≡ map (new_id (get ⟦<Place as PartialEq>⟧.eq made.now)) places.now }
@@ -170,10 +194,17 @@ fn made_kids(places: &[Place], made: &HashMap<Place, u64>) -> Kids
 pub trait Changing {
     ghost changes: { Self → List Node → Changes };
 
+    ghost reach: { Self → Reach };
+
     /// What it names is in the pool, and has its sort.
     ghost is_there: { Self → List Node → Type 0 };
 
-    /// What becomes of a variable of a space with this number, which stands at a depth.
+    /// From where on variables may change.
+    fn reach(&self) -> Reach
+        ensures { result ≡ reach self.now };
+
+    /// What becomes of a variable of a space with this number, which stands at a depth; `None`
+    /// where an index would be too large.
     fn variable(
         &self,
         alloc: Global,
@@ -181,94 +212,128 @@ pub trait Changing {
         space: Space,
         depth: Counts,
         number: u64,
-    ) -> Result<Change, OutOfMemory>
+    ) -> Result<Option<Change>, OutOfMemory>
         requires there { is_there self.now pool.old.nodes }
         requires number { number < 2 ^ 32 }
-        requires fits { FitsChange (changes self.now pool.old.nodes space (depth_of depth) number) }
-        ensures change { IfOk result (λ change. IsChange pool.new.nodes change (changes self.now pool.old.nodes space (depth_of depth) number)) }
-        ensures grows { Grows pool.old.nodes pool.new.nodes };
+        requires pool { IsPool pool.old.nodes }
+        ensures change { IfOk result (λ change. IsAnswer pool.new.nodes change
+            (changes self.now pool.old.nodes space (depth_of depth) number)) }
+        ensures grows { Grows pool.old.nodes pool.new.nodes }
+        ensures pool { IsPool pool.new.nodes };
 
     /// It stays the same in a pool that grows.
-    ghost kept: { (self : Self) (old new : List Node) → is_there self old → Grows old new → is_there self new × (changes self new ≡ changes self old) };
+    ghost kept: { (self : Self) (old new : List Node) → is_there self old → Grows old new
+        → is_there self new
+        × (changes self new ≡ changes self old) };
 
     /// Only trees of its sort take the place of a variable.
-    ghost sorts: { (self : Self) (nodes : List Node) → is_there self nodes → KeepsSorts (changes self nodes) };
+    ghost sorts: { (self : Self) (nodes : List Node) → is_there self nodes
+        → KeepsSorts (changes self nodes) };
+
+    /// Variables that aren't reached stay as they are.
+    ghost stays: { (self : Self) (nodes : List Node)
+        → IsWithin (reach_of (reach self)) (changes self nodes) };
 }
 
-/// The id of what becomes of the tree at a place, each kid of which has its new id.
+/// The id of what becomes of the tree at a place, each kid of which has its new id; `None` where an
+/// index would be too large.
 fn make_at<C: Changing>(
     alloc: Global,
     pool: &mut Pool,
     changing: &C,
     place: Place,
-    made: &HashMap<Place, u64>,
-) -> Result<u64, OutOfMemory>
+    made: &HashMap<Place, u64, HashKey>,
+) -> Result<Option<u64>, OutOfMemory>
     requires there { C.is_there changing.now pool.old.nodes }
-    requires fits { IsFit (C.changes changing.now pool.old.nodes) pool.old.nodes place }
-    requires kids { (kid : _) → IsKid pool.old.nodes place kid → IsMade (get ⟦<Place as PartialEq>⟧.eq made.now) (C.changes changing.now pool.old.nodes) pool.old.nodes pool.old.nodes kid }
-    ensures within { IfOk result (λ new. new < length pool.new.nodes) }
-    ensures tree { IfOk result (λ new. tree_of pool.new.nodes new ≡ answer (C.changes changing.now pool.old.nodes) pool.old.nodes place) }
+    requires live { place.id < length pool.old.nodes }
+    requires pool { IsPool pool.old.nodes }
+    requires kids { (kid : _) → IsKid (reach_of (C.reach changing.now)) pool.old.nodes place kid
+        → IsMade (get ⟦<Place as PartialEq>⟧.eq made.now)
+        (C.changes changing.now pool.old.nodes) pool.old.nodes pool.old.nodes kid }
+    ensures answer { IfOk result (IsAnswerOf pool.new.nodes
+        (answer (C.changes changing.now pool.old.nodes) pool.old.nodes place)) }
     ensures grows { Grows pool.old.nodes pool.new.nodes }
+    ensures pool { IsPool pool.new.nodes }
 {
+    if is_beyond(pool, changing.reach(), place) {
+        return Ok(Some(place.id));
+    }
     let node = pool.node(place.id);
     match node.kind.form().role {
         Role::Variable(space) => {
-            let mut node = node.copy(alloc)?;
+            let mut node = node.copy()?;
             match changing.variable(alloc, pool, space, place.depth, node.number)? {
-                Change::Renumbered(number) => {
+                None => Ok(None),
+                Some(Change::Renumbered(number)) => {
                     node.number = number;
-                    pool.make(node)
+                    Ok(Some(pool.make(node)?))
                 }
-                Change::Replaced(id) => Ok(id),
+                Some(Change::Replaced(id)) => Ok(Some(id)),
             }
         }
-        Role::Declared => Ok(place.id),
+        Role::Declared => Ok(Some(place.id)),
         Role::Former => {
             let below = place.below(alloc, node)?;
-            let mut node = node.copy(alloc)?;
+            let mut node = node.copy()?;
             node.kids = made_kids(&below, made);
-            pool.make(node)
+            Ok(Some(pool.make(node)?))
         }
     }
 }
 
-/// The new ids of the listed places.
+/// The new ids of the listed places; `None` where an index would be too large.
 fn make_all<C: Changing>(
     alloc: Global,
     pool: &mut Pool,
     changing: &C,
     mut places: Vec<Place>,
-) -> Result<HashMap<Place, u64>, OutOfMemory>
+) -> Result<Option<HashMap<Place, u64, HashKey>>, OutOfMemory>
     requires there { C.is_there changing.now pool.old.nodes }
-    requires settled { AreSettled pool.old.nodes places.items (λ _. ⊥) }
-    requires fits { All (IsFit (C.changes changing.now pool.old.nodes) pool.old.nodes) places.items }
-    ensures made { IfOk result (λ made. (place : _) → Contains places.items place → IsMade (get ⟦<Place as PartialEq>⟧.eq made) (C.changes changing.now pool.old.nodes) pool.old.nodes pool.new.nodes place) }
+    requires settled { AreSettled (reach_of (C.reach changing.now)) pool.old.nodes places.items
+        (λ _. ⊥) }
+    requires live { All (λ place. place.id < length pool.old.nodes) places.items }
+    requires pool { IsPool pool.old.nodes }
+    ensures made { IfOk result (λ made. IfSome made (λ made.
+        (place : _) → Contains places.items place
+        → IsMade (get ⟦<Place as PartialEq>⟧.eq made)
+        (C.changes changing.now pool.old.nodes) pool.old.nodes pool.new.nodes place)) }
+    ensures none { IfOk result (λ made. IfNone made (HasMisfit
+        (C.changes changing.now pool.old.nodes) pool.old.nodes places.items)) }
     ensures grows { Grows pool.old.nodes pool.new.nodes }
+    ensures pool { IsPool pool.new.nodes }
 {
-    let mut made = HashMap::new(alloc);
+    let mut made = HashMap::with_hasher(alloc, pool.hash_key());
     while let Some(place) = places.pop() {
-        let new = make_at(alloc, pool, changing, place, &made)?;
-        made.insert(place, new)?;
+        match make_at(alloc, pool, changing, place, &made)? {
+            Some(new) => {
+                made.insert(place, new)?;
+            }
+            None => return Ok(None),
+        }
     }
-    Ok(made)
+    Ok(Some(made))
 }
 
-/// The id of what becomes of a tree.
+/// The id of what becomes of a tree; `None` where an index would be too large.
 pub fn rebuild<C: Changing>(
     alloc: Global,
     pool: &mut Pool,
     changing: &C,
     id: u64,
-) -> Result<u64, OutOfMemory>
+) -> Result<Option<u64>, OutOfMemory>
     requires live { id < length pool.old.nodes }
     requires there { C.is_there changing.now pool.old.nodes }
-    requires indices { IndicesBelow (2 ^ 32) (changed (C.changes changing.now pool.old.nodes) none (tree_of pool.old.nodes id)) }
-    ensures within { IfOk result (λ new. new < length pool.new.nodes) }
-    ensures tree { IfOk result (λ new. tree_of pool.new.nodes new ≡ changed (C.changes changing.now pool.old.nodes) none (tree_of pool.old.nodes id)) }
-    ensures sort { IfOk result (λ new. sort_of (tree_of pool.new.nodes new) ≡ sort_of (tree_of pool.old.nodes id)) }
+    ensures answer { IfOk result (IsAnswerOf pool.new.nodes
+        (changed (C.changes changing.now pool.old.nodes) none (tree_of pool.old.nodes id))) }
     ensures grows { Grows pool.old.nodes pool.new.nodes }
+    ensures pool { IsPool pool.new.nodes }
 {
-    let places = places(alloc, pool, id)?;
-    let made = make_all(alloc, pool, changing, places)?;
-    Ok(made[&Place::top(id)])
+    if is_beyond(pool, changing.reach(), Place::top(id)) {
+        return Ok(Some(id));
+    }
+    let places = places(alloc, pool, changing.reach(), id)?;
+    match make_all(alloc, pool, changing, places)? {
+        Some(made) => Ok(Some(made[&Place::top(id)])),
+        None => Ok(None),
+    }
 }

@@ -1,4 +1,4 @@
-use Rattle.rz_kernel_rows.specs.Matching.{said}
+use Rattle.rz_kernel_rows.specs.Line.{said}
 use Rattle.rz_kernel_rows.proofs.Following.{premise_more, premise_none}
 use Rattle.rz_kernel_rows.proofs.lines.premises_of.Goals as goal
 

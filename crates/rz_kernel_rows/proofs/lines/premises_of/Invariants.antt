@@ -1,6 +1,6 @@
 use Rattle.std.proofs.Common.{◌≡◌, map, take, Some}
 use Rattle.std.specs.Prelude.{slice_get}
-use Rattle.rz_kernel_rows.specs.Matching.{said}
+use Rattle.rz_kernel_rows.specs.Line.{said}
 use Rattle.rz_kernel_rows.proofs.lines.premises_of.Given as goal
 
 -- the premises so far

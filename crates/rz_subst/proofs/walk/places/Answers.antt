@@ -4,10 +4,9 @@ use Rattle.std.specs.Ordering.{is_eq, eq_by_cmp}
 use Rattle.std.specs.BTreeSet.{contains}
 use Rattle.rz_subst.specs.declared.walk.Place.{Place}
 use Rattle.rz_subst.specs.contracts.walk.PlaceOrd.TheImpl.{cmp-value}
-use Rattle.rz_subst.specs.Walk.{Joined, top_place}
+use Rattle.rz_subst.specs.Walk.{reach_of, Joined, top_place}
 use Rattle.rz_subst.proofs.Places.{equal_places}
 use Rattle.rz_subst.proofs.Listing.{IsListing, IsListing-start, IsListing-push, ListsPlaces-end}
-use Rattle.rz_subst.proofs.Making.{enough_slots}
 use Rattle.rz_subst.proofs.walk.places.Goals as goal
 
 none : (keys : List Place) (test : Place → Bool) → (0 < length keys → false ≡ true) → list_any test keys ≡ false
@@ -27,25 +26,22 @@ loop-place-init c =
     let only : (q : Place) → waits q ≡ true → q ≡ top = λ q h.
     sym (equal_places top q (at_first (is_eq (cmp-value.it top q)) (sym (ap (cond (is_eq (cmp-value.it top q)) true) (empty q)) ∙ (sym (updates.0 q) ∙ h)))) in
     rw c.new-places.ensures.items
-    (subst (λ (p : Place). IsListing c.args.pool.now.nodes p waits []) c.top.ensures
-    (IsListing-start c.args.pool.now.nodes top waits (omega (arith, ap (λ (p : Place). p.id) c.top.ensures)) updates.1 only))
+    (subst (λ (p : Place). IsListing (reach_of c.args.reach) c.args.pool.now.nodes p waits []) c.top.ensures
+    (IsListing-start (reach_of c.args.reach) c.args.pool.now.nodes top waits (omega (arith, ap (λ (p : Place). p.id) c.top.ensures)) updates.1 only))
 
-pub below-requires : goal.below-requires
-below-requires c = enough_slots c.args.pool.now.nodes c.in-Some.place c.node.result.now (record { at = c.node.ensures.node; tree = c.node.ensures.tree; form = c.node.ensures.form })
+pub next_places-requires : goal.next_places-requires
+next_places-requires c = c.loop-place.invariant.live c.in-Some.place c.in-Some.ensures.member
 
 pub loop-place-preserved : goal.loop-place-preserved
 loop-place-preserved c =
-    let nodes = c.args.pool.now.nodes in
     let popped = c.in-Some.ensures in
-    let part = c.in-Some.place in
-    let node = c.node.result.now in
     let left = contains cmp-value.it c.pop_last.new.self in
     let more = contains cmp-value.it c.add_all.new.waiting in
     rw c.in_ok-push.ensures.items
-    (IsListing-push nodes (top_place c.args.id) (contains cmp-value.it c.loop-place.waiting) c.loop-place.places.items c.loop-place.invariant
-    part node popped.member c.node.ensures.node c.node.ensures.tree c.node.ensures.form.kids left more popped.updates.0 popped.updates.2
-    (subst (Joined left more) (c.deref.ensures.value ∙ c.in_ok-below.ensures.below) c.in_ok-add_all.ensures))
+    (IsListing-push (reach_of c.args.reach) c.args.pool.now.nodes (top_place c.args.id) (contains cmp-value.it c.loop-place.waiting) c.loop-place.places.items c.loop-place.invariant
+    c.in-Some.place popped.member c.in_ok-below.below.items c.in_ok-below.ensures left more popped.updates.0 popped.updates.2
+    (subst (Joined left more) c.deref.ensures.value c.in_ok-add_all.ensures))
 
 pub returns : goal.returns
-returns c = ListsPlaces-end c.args.pool.now.nodes (top_place c.args.id) (contains cmp-value.it c.loop-place.waiting) c.loop-place.places.items c.loop-place.invariant
+returns c = ListsPlaces-end (reach_of c.args.reach) c.args.pool.now.nodes (top_place c.args.id) (contains cmp-value.it c.loop-place.waiting) c.loop-place.places.items c.loop-place.invariant
     (λ q. none c.loop-place.waiting.keys (eq_by_cmp cmp-value.it q) c.in_default.ensures.variant.1)

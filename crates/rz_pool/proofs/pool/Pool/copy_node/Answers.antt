@@ -16,10 +16,12 @@ make-requires c =
     record {
       kids = form.kids;
       sorts = form.sorts;
-      number = omega (arith, form.number);
-      unnumbered = λ e. omega (arith, form.unnumbered e);
-      unnamed = form.unnamed;
-      named = form.named;
+      label = record {
+        small = omega (arith, form.label.small);
+        unnumbered = λ e. omega (arith, form.label.unnumbered e);
+        unnamed = form.label.unnamed;
+        named = form.label.named;
+      };
     }
 
 pub returns-clause-tree : goal.returns-clause-tree

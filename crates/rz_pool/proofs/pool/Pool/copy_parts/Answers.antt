@@ -4,7 +4,7 @@ use Rattle.rz_pool.proofs.Copying.{IsCopying, IsCopying-start, last_kids, Adds-c
 use Rattle.rz_pool.proofs.pool.Pool.copy_parts.Goals as goal
 
 pub loop-part-init : goal.loop-part-init
-loop-part-init c = IsCopying-start c.args.self.now.nodes c.args.id (get nat_eq c.new-copies.result) c.args.to.now.nodes c.args.parts.items c.requires
+loop-part-init c = IsCopying-start c.args.self.now.nodes c.args.id (get nat_eq c.with_hasher-copies.result) c.args.to.now.nodes c.args.parts.items c.requires
 
 pub copy_node-requires-clause-kids : goal.copy_node-requires-clause-kids
 copy_node-requires-clause-kids c =

@@ -1,15 +1,18 @@
-use Rattle.std.proofs.Common.{ap, arith}
-use Rattle.rz_pool.specs.Pool.{Contents}
-use Rattle.rz_pool.proofs.Nodes.{IsPool-take, KeepsTrees-take}
+use Rattle.std.proofs.Common.{take, ap, sym, subst, ◌∙◌}
+use Rattle.std.specs.Map.{keys_of, values_of}
+use Rattle.rz_pool.specs.Pool.{Contents, IsPool}
+use Rattle.rz_pool.specs.Free.{HaveBounds}
+use Rattle.rz_pool.proofs.Sets.{Entries, keys-take, IsKept-take}
 use Rattle.rz_pool.proofs.pool.Pool.release.Goals as goal
 
 pub invariant_of-self : goal.invariant_of-self
-invariant_of-self c = rw c.truncate.ensures.keys (IsPool-take c.self.inside.nodes.keys _ c.self.invariant)
+invariant_of-self c =
+    subst (λ (es : Entries). IsPool (keys_of es) × HaveBounds (keys_of es) (values_of es)) (sym c.truncate.ensures.entries)
+    (IsKept-take c.self.inside.nodes.entries _ c.self.invariant)
 
-pub returns-clause-kept : goal.returns-clause-kept
-returns-clause-kept c =
-    let same = ap (λ (v : Contents). v.nodes) c.self.view_is in
-    rw (c.truncate.ensures.keys, same) (KeepsTrees-take c.args.self.now.nodes _ c.args.mark (omega arith) c.requires)
+pub returns-clause-nodes : goal.returns-clause-nodes
+returns-clause-nodes c =
+    ap keys_of c.truncate.ensures.entries ∙ keys-take c.self.inside.nodes.entries _ ∙ ap (λ (v : Contents). take c.args.mark v.nodes) c.self.view_is
 
 pub returns-clause-pool : goal.returns-clause-pool
-returns-clause-pool c = rw c.truncate.ensures.keys (IsPool-take c.self.inside.nodes.keys _ c.self.invariant)
+returns-clause-pool c = (invariant_of-self c).0

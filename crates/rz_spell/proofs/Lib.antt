@@ -1,0 +1,6 @@
+pub mod Taking
+pub mod Stacks
+pub mod Putting
+pub mod Substituting
+pub mod Judging
+pub mod Whole

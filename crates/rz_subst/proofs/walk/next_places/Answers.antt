@@ -1,0 +1,18 @@
+use Rattle.std.proofs.Common.{◌≡◌, sym, subst}
+use Rattle.std.proofs.lemmas.Result.{IfOk-weaker}
+use Rattle.rz_subst.specs.Walk.{reach_of, places_below, AreNext}
+use Rattle.rz_subst.proofs.Listing.{AreNext-below}
+use Rattle.rz_subst.proofs.Making.{enough_slots}
+use Rattle.rz_subst.proofs.walk.next_places.Goals as goal
+
+pub below-requires : goal.below-requires
+below-requires c = enough_slots c.args.pool.now.nodes c.args.place c.node.result.now (record { at = c.node.ensures.node; tree = c.node.ensures.tree; form = c.node.ensures.form })
+
+pub returns : goal.returns
+returns c =
+    let reach = reach_of c.args.reach in
+    let nodes = c.args.pool.now.nodes in
+    let node = c.node.result.now in
+    let below = AreNext-below reach nodes c.args.place node c.requires c.node.ensures.node c.node.ensures.tree c.node.ensures.form.kids in
+    IfOk-weaker c.below.result (λ places. places.items ≡ places_below c.args.place node) (λ places. AreNext reach nodes c.args.place places.items)
+    (λ places e. subst (AreNext reach nodes c.args.place) (sym e) below) c.below.ensures.below
