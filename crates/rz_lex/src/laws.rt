@@ -16,7 +16,8 @@ pub fn one_ending()
     ensures apart { (text : List ℕ) (tokens : List Token) (line column : ℕ)
         → Lexed text tokens → IsBadAt text line column → ⊥ }
     ensures one { (text : List ℕ) (line column line' column' : ℕ)
-        → IsBadAt text line column → IsBadAt text line' column' → (line ≡ line') × (column ≡ column') }
+        → IsBadAt text line column → IsBadAt text line' column'
+        → (line ≡ line') × (column ≡ column') }
 {}
 
 /// The tokens of a text that is UTF-8 cut no character, so the text may be sliced by their spans.

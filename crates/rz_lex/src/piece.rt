@@ -110,7 +110,8 @@ fn longest_fixed(fixed: &[(&str, Tok)], rest: &[u8]) -> Option<(usize, Tok)>
 #[tactic(auto, unfolding(crate::specs::Spelling::table))]
 fn longest_listed(rest: &[u8]) -> Option<(usize, Tok)>
     ensures none { IfNone result (NoToken (meaning table) rest.now) }
-    ensures some { IfSome result (λ found. IsLongestToken (meaning table) rest.now found.0 found.1) }
+    ensures some { IfSome result
+        (λ found. IsLongestToken (meaning table) rest.now found.0 found.1) }
 {
     longest_fixed(FIXED, rest)
 }
@@ -134,7 +135,8 @@ fn longest_free(rest: &[u8]) -> Option<(usize, Tok)>
 // The longest token at the front. Of two that are as long the table's is meant.
 fn longest_token(rest: &[u8]) -> Option<(usize, Tok)>
     ensures none { IfNone result (NoToken (spelled table) rest.now) }
-    ensures some { IfSome result (λ found. IsLongestToken (spelled table) rest.now found.0 found.1) }
+    ensures some { IfSome result
+        (λ found. IsLongestToken (spelled table) rest.now found.0 found.1) }
 {
     let fixed = longest_listed(rest);
     let free = longest_free(rest);

@@ -30,7 +30,8 @@ fn behind(place: Place, byte: u8) -> Place
     ensures line_feeds { result.line_feeds
         ≡ place.line_feeds + (if is_line_feed byte then 1 else 0) }
     ensures characters { result.characters
-        ≡ (if is_line_feed byte then 0 else place.characters + (if begins_character byte then 1 else 0)) }
+        ≡ (if is_line_feed byte then 0
+        else place.characters + (if begins_character byte then 1 else 0)) }
 {
     let at = place.at + 1;
     if byte == LINE_FEED {

@@ -39,7 +39,8 @@ fn push_line(
     inside: Option<Fence>,
     line: &str,
 ) -> Result<Option<Fence>, AllocError>
-    ensures written { OnOk result (string_bytes out.new ≡ string_bytes out.old ++ (if is_code_line inside line.now then line.now else blank line.now)) }
+    ensures written { OnOk result (string_bytes out.new ≡ string_bytes out.old ++
+        (if is_code_line inside line.now then line.now else blank line.now)) }
     ensures after { IfOk result (λ fence. fence ≡ fence_after inside line.now) }
 {
     match inside {

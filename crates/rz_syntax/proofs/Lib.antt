@@ -1,0 +1,13 @@
+pub mod Linking
+pub mod Ways
+pub mod Weaving
+pub mod Costs
+pub mod Phrases
+pub mod Completing
+pub mod Reading
+pub mod Nesting
+pub mod Spans
+pub mod Starts
+pub mod Colons
+pub mod Once
+pub mod Faults

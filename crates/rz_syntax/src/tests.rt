@@ -1,0 +1,571 @@
+use crate::{Bind, Command, Commands, Form, ParseFault, Raw, RawFace, Shape, Word, parse};
+use rz_lex::tokens;
+use std::alloc::{AllocError, Global};
+use std::fmt::Write;
+use std::test::Fail;
+
+// The answers to sources behind `#lang rzk-1`: none, or the number of the token of Syntax.
+const READ: &[(&str, Option<u64>)] = &[
+    ("", None),
+    (";;", None),
+    // Commands.
+    ("#def x : U := U", None),
+    ("#define x : U := U ;", None),
+    ("#def x uses (a) : U := U", None),
+    ("#def x uses (a b c) (y z : U) {t : 2 | TOP} : U := U", None),
+    ("#postulate x : U", None),
+    ("#postulate x uses (a) (y : U) : U", None),
+    ("#check U : U", None),
+    ("#compute U", None),
+    ("#compute-whnf U", None),
+    ("#compute-nf U ; ;", None),
+    ("#section #section a #end #end a", None),
+    ("#assume a : U", None),
+    ("#variable a b : U", None),
+    ("#variables a b c : U", None),
+    ("#set-option \"a\" = \"b\"", None),
+    ("#unset-option \"a\"", None),
+    // Patterns and binders.
+    ("#compute (x : U) -> U", None),
+    ("#compute (x y _ : U) -> U", None),
+    ("#compute ((x , y) : U) -> U", None),
+    ("#compute ((x , (y , _)) z : U | TOP) -> U", None),
+    ("#compute {x : 2 | TOP} -> U", None),
+    ("#compute {x (y , z) : 2 | TOP} -> U", None),
+    ("#compute \\ x -> x", None),
+    (
+        "#compute \\ x _ (y , z) (w : U) (a b : U | TOP) {t : 2 | BOT} -> x",
+        None,
+    ),
+    ("#compute Sigma (x : U), U", None),
+    ("#compute Sigma ((x , y) : U), U", None),
+    // Terms.
+    ("#compute A -> B -> C", None),
+    ("#compute x as A", None),
+    ("#compute x as A [p |-> y]", None),
+    ("#compute A [p |-> y, q |-> z]", None),
+    ("#compute a \\/ b \\/ c", None),
+    ("#compute a /\\ b /\\ c", None),
+    ("#compute a === b", None),
+    ("#compute a <= b", None),
+    ("#compute a = b", None),
+    ("#compute a =_{A} b", None),
+    ("#compute 1 × 2 * 2", None),
+    ("#compute f x y z", None),
+    ("#compute first p", None),
+    ("#compute second p x", None),
+    (
+        "#compute U CUBE TOPE 1 2 *_1 0_2 1_2 TOP BOT Unit unit recBOT refl",
+        None,
+    ),
+    ("#compute refl_{x}", None),
+    ("#compute refl_{x : A}", None),
+    ("#compute idJ (a, b, c, d, e, f)", None),
+    ("#compute recOR (a |-> b, c |-> d)", None),
+    ("#compute recOR (a |-> b, c |-> d, e |-> f)", None),
+    ("#compute (x)", None),
+    ("#compute (x , y)", None),
+    ("#compute ((x))", None),
+    ("#compute (x , y) (z)", None),
+    ("#compute (x y)", None),
+    ("#compute (x) -> U", None),
+    ("#compute ((x) : U) -> U", Some(7)),
+    // No commands.
+    ("x", Some(2)),
+    ("#lang rzk-1", Some(2)),
+    ("#def", Some(3)),
+    ("#def x :", Some(5)),
+    ("#def : U", Some(3)),
+    ("#def x: U := U", Some(4)),
+    ("#def x U := U", Some(4)),
+    ("#def x : U = U", Some(8)),
+    ("#def x : U #check U : U", Some(6)),
+    ("#def x () : U := U", Some(5)),
+    ("#def x uses () : U := U", Some(6)),
+    ("#def x (y : U) uses (a) : U := U", Some(9)),
+    ("#postulate x : U := U", Some(6)),
+    ("#check U", Some(4)),
+    ("#compute", Some(3)),
+    ("#compute ; U", Some(3)),
+    ("#section a b", Some(4)),
+    ("#assume : U", Some(3)),
+    ("#set-option \"a\" = b", Some(5)),
+    ("#unset-option a", Some(3)),
+    // After `as` comes no function type.
+    ("#compute a as A -> B", Some(6)),
+    ("#compute f first p", Some(4)),
+    ("#compute first first p", Some(4)),
+    ("#compute x = y = z", Some(6)),
+    ("#compute A [a |-> b] [a |-> b]", Some(9)),
+    ("#compute A []", Some(5)),
+    ("#check Sigma (x y : A), B : U", Some(6)),
+    ("#check Sigma (x : A | p), B : U", Some(8)),
+    ("#compute recOR (a |-> b)", Some(8)),
+    ("#compute {x : 2} -> U", Some(7)),
+    ("#compute {x}", Some(5)),
+    ("#compute idJ (a, b, c, d, e)", Some(14)),
+    ("#compute refl_{x : A : B}", Some(7)),
+    ("#compute x =_{A y", Some(7)),
+    ("#compute × 2", Some(3)),
+    ("#compute 2 ×", Some(5)),
+    ("#compute a \\/", Some(5)),
+    // Two readings behind a bracket or a backslash: the last one that lives decides.
+    ("#compute (x _ y)", Some(7)),
+    ("#compute ((x , _) y)", Some(10)),
+    ("#compute (x U : U)", Some(6)),
+    ("#compute \\ (x) -> x", Some(6)),
+    ("#compute \\ (x y)", Some(7)),
+    ("#compute \\ (x , y z)", Some(8)),
+    ("#compute (x : U)", Some(8)),
+    ("#compute (x : U) U", Some(8)),
+    ("#compute (_)", Some(5)),
+    ("#compute (_ , x)", Some(5)),
+    ("#compute ((_ , x) , y)", Some(9)),
+    ("#compute (x , y : U)", Some(7)),
+    ("#compute x)", Some(4)),
+    ("#compute (x", Some(5)),
+    ("#compute (x ]", Some(5)),
+];
+
+// Sources behind `#lang rzk-1`, and what they say: patterns; forms; commands. A part is told by its
+// number in its table and its place.
+const TREES: &[(&str, &str)] = &[
+    ("#compute x", "; x ; compute 2 2 0.1"),
+    (
+        "#compute x ; #compute y ;",
+        "; x y ; compute 2 2 0.1 compute 5 2 1.1",
+    ),
+    (
+        "#compute f x y",
+        "; f x y app 0.1 1.2 2.3 ; compute 2 4 3.1",
+    ),
+    // Products group to the left, the others to the right.
+    (
+        "#compute 1 × 2 × a",
+        "; CubeOne CubeTwo product 0.1 1.3 a product 2.1 3.5 ; compute 2 6 4.1",
+    ),
+    (
+        "#compute a \\/ b \\/ c",
+        "; a b c or 1.3 2.5 or 0.1 3.3 ; compute 2 6 4.1",
+    ),
+    (
+        "#compute a /\\ b \\/ c",
+        "; a b and 0.1 1.3 c or 2.1 3.5 ; compute 2 6 4.1",
+    ),
+    (
+        "#compute a \\/ b /\\ c",
+        "; a b c and 1.3 2.5 or 0.1 3.3 ; compute 2 6 4.1",
+    ),
+    (
+        "#compute a === b /\\ c <= d",
+        "; a b same-point 0.1 1.3 c d at-most 3.5 4.7 and 2.1 5.5 ; compute 2 8 6.1",
+    ),
+    (
+        "#compute 1 × 2 = a",
+        "; CubeOne CubeTwo product 0.1 1.3 a equal 2.1 3.5 ; compute 2 6 4.1",
+    ),
+    (
+        "#compute x =_{A} y",
+        "; x A y equal-at 1.3 0.1 2.5 ; compute 2 6 3.1",
+    ),
+    // A function type without a name has a binder with a nameless pattern.
+    (
+        "#compute A -> x as B",
+        "_ ; A x B as 1.3 2.5 arrow 0.1:0.1 3.3 ; compute 2 6 4.1",
+    ),
+    (
+        "#compute \\ x -> a as A",
+        "x ; a A as 0.4 1.6 lambda 0.2 2.4 ; compute 2 7 3.1",
+    ),
+    // A form whose first part is in brackets begins at its bracket; one that is in brackets stands
+    // inside.
+    ("#compute (g) x", "; g x app 0.2 1.4 ; compute 2 5 2.1"),
+    ("#compute (g x)", "; g x app 0.2 1.3 ; compute 2 5 2.2"),
+    (
+        "#compute (A) -> B",
+        "_ ; A B arrow 0.2:0.2 1.5 ; compute 2 6 2.1",
+    ),
+    (
+        "#compute (t) === t",
+        "; t t same-point 0.2 1.5 ; compute 2 6 2.1",
+    ),
+    (
+        "#compute (A) [TOP |-> x]",
+        "; A Top x restrict 0.2 1.5|2.7 ; compute 2 9 3.1",
+    ),
+    ("#compute (x) as A", "; x A as 0.2 1.5 ; compute 2 6 2.1"),
+    (
+        "#compute (A) × B",
+        "; A B product 0.2 1.5 ; compute 2 6 2.1",
+    ),
+    ("#compute (a , b)", "; a b pair 0.2 1.4 ; compute 2 6 2.1"),
+    (
+        "#compute first p x",
+        "; p first 0.2 x app 1.1 2.3 ; compute 2 4 3.1",
+    ),
+    (
+        "#compute f (second p)",
+        "; f p second 1.4 app 0.1 2.3 ; compute 2 6 3.1",
+    ),
+    (
+        "#compute refl_{x : A}",
+        "; x A refl-at 0.2 1.4 ; compute 2 6 2.1",
+    ),
+    ("#compute refl_{x}", "; x refl-at 0.2 ; compute 2 4 1.1"),
+    (
+        "#compute recOR (a |-> b, c |-> d)",
+        "; a b c d rec-or 0.3|1.5 2.7|3.9 ; compute 2 11 4.1",
+    ),
+    (
+        "#compute idJ (a, b, c, d, e, f)",
+        "; a b c d e f id-j 0.3 1.5 2.7 3.9 4.11 5.13 ; compute 2 15 6.1",
+    ),
+    // Several patterns are as many binders. The first function type stands at the bracket, each
+    // other one at its pattern.
+    (
+        "#compute (x y : A) -> B",
+        "x y ; A B arrow 1.3:0.5 1.8 arrow 0.2:0.5 2.3 ; compute 2 9 3.1",
+    ),
+    (
+        "#compute (x : A | p) -> B",
+        "x ; A p B arrow 0.2:0.4|1.6 2.9 ; compute 2 10 3.1",
+    ),
+    (
+        "#compute \\ x ((y , z) : A) -> x",
+        "x y z (1.5,2.7) ; A x lambda 0.2 3.4:0.10 1.13 ; compute 2 14 2.1",
+    ),
+    (
+        "#compute Sigma ((x , y) : A), B",
+        "x y (0.4,1.6) ; A B sigma 2.3:0.9 1.12 ; compute 2 13 2.1",
+    ),
+    // Commands.
+    (
+        "#def f uses (a b) (x : U) : U := x",
+        "x ; Universe Universe x ; def 2 16 f.1 a.4 b.5 0.8:0.10 1.13 2.15",
+    ),
+    ("; #postulate f : U", "; Universe ; postulate 3 4 f.1 0.3"),
+    ("#check x : U", "; x Universe ; check 2 4 0.1 1.3"),
+    (
+        "#section #section a #end #end b",
+        "; ; section 2 1 section 3 2 a.1 end 5 1 end 6 2 b.1",
+    ),
+    ("#variables a b : U", "; Universe ; assume 2 5 a.1 b.2 0.4"),
+    (
+        "#set-option \"a\" = \"b\" #unset-option \"a\"",
+        "; ; option 2 4 option 6 2",
+    ),
+];
+
+// What stands before, what stands between, what stands after; how often before and after, so that
+// no token is too deep; and the token that is, where it is once more.
+const DEEP: &[(&str, &str, &str, u64, u64)] = &[
+    ("(", "x", ")", 200, 203),
+    ("A [p |-> ", "A", "]", 200, 804),
+    ("{x : 1 | p} -> ", "A", "", 200, 1603),
+    ("A -> ", "A", "", 200, 404),
+    ("\\ x -> ", "x", "", 100, 303),
+    ("Sigma (x : A), ", "A", "", 199, 1397),
+    ("a \\/ ", "a", "", 200, 404),
+    ("a /\\ ", "a", "", 200, 404),
+    ("a =_{", "A", "} a", 200, 404),
+    ("refl_{", "a", "}", 200, 203),
+    // Products don't raise the level.
+    ("2 × ", "2", "", 3000, 0),
+];
+
+fn show_raw(out: &mut String, raw: Raw) -> Result<(), AllocError> {
+    write!(out, "{}.{} ", raw.form, raw.at)
+}
+
+fn show_raws(out: &mut String, word: &str, raws: &[Raw]) -> Result<(), AllocError> {
+    write!(out, "{word} ")?;
+    for raw in raws {
+        show_raw(out, *raw)?;
+    }
+    Ok(())
+}
+
+fn show_faces(out: &mut String, faces: &[RawFace]) -> Result<(), AllocError> {
+    for face in faces {
+        let tope = face.tope;
+        write!(out, "{}.{}|", tope.form, tope.at)?;
+        show_raw(out, face.term)?;
+    }
+    Ok(())
+}
+
+fn show_binds(out: &mut String, binds: &[Bind]) -> Result<(), AllocError> {
+    for bind in binds {
+        write!(out, "{}.{}", bind.pat.shape, bind.pat.at)?;
+        if let Some(of) = bind.of {
+            write!(out, ":{}.{}", of.form, of.at)?;
+        }
+        if let Some(tope) = bind.tope {
+            write!(out, "|{}.{}", tope.form, tope.at)?;
+        }
+        write!(out, " ")?;
+    }
+    Ok(())
+}
+
+fn show_words(out: &mut String, words: &[Word]) -> Result<(), AllocError> {
+    for word in words {
+        write!(out, "{}.{} ", word.name.as_str(), word.at)?;
+    }
+    Ok(())
+}
+
+fn show_title(out: &mut String, name: &Option<Word>) -> Result<(), AllocError> {
+    match name {
+        Some(word) => write!(out, "{}.{} ", word.name.as_str(), word.at),
+        None => Ok(()),
+    }
+}
+
+fn show_shape(out: &mut String, shape: &Shape) -> Result<(), AllocError> {
+    match shape {
+        Shape::Named { name } => write!(out, "{} ", name.as_str()),
+        Shape::Blank => write!(out, "_ "),
+        Shape::Pair { left, right } => {
+            write!(
+                out,
+                "({}.{},{}.{}) ",
+                left.shape, left.at, right.shape, right.at
+            )
+        }
+    }
+}
+
+fn show_form(out: &mut String, form: &Form) -> Result<(), AllocError> {
+    match form {
+        Form::Named { name } => write!(out, "{} ", name.as_str()),
+        Form::ReflAt { term, of: None } => show_raws(out, "refl-at", &[*term]),
+        Form::ReflAt { term, of: Some(of) } => show_raws(out, "refl-at", &[*term, *of]),
+        Form::IdJ { parts } => show_raws(out, "id-j", parts.as_slice()),
+        Form::Pair { left, right } => show_raws(out, "pair", &[*left, *right]),
+        Form::App { head, args } => {
+            show_raws(out, "app", &[*head])?;
+            for arg in args.as_slice() {
+                show_raw(out, *arg)?;
+            }
+            Ok(())
+        }
+        Form::First { arg } => show_raws(out, "first", &[*arg]),
+        Form::Second { arg } => show_raws(out, "second", &[*arg]),
+        Form::Product { left, right } => show_raws(out, "product", &[*left, *right]),
+        Form::SamePoint { left, right } => show_raws(out, "same-point", &[*left, *right]),
+        Form::AtMost { left, right } => show_raws(out, "at-most", &[*left, *right]),
+        Form::Equal { left, right } => show_raws(out, "equal", &[*left, *right]),
+        Form::EqualAt { of, left, right } => show_raws(out, "equal-at", &[*of, *left, *right]),
+        Form::And { left, right } => show_raws(out, "and", &[*left, *right]),
+        Form::Or { left, right } => show_raws(out, "or", &[*left, *right]),
+        Form::As { term, of } => show_raws(out, "as", &[*term, *of]),
+        Form::RecOr { faces } => {
+            write!(out, "rec-or ")?;
+            show_faces(out, faces.as_slice())
+        }
+        Form::Restrict { body, faces } => {
+            show_raws(out, "restrict", &[*body])?;
+            show_faces(out, faces.as_slice())
+        }
+        Form::Arrow { bind, body } => {
+            write!(out, "arrow ")?;
+            show_binds(out, &[*bind])?;
+            show_raw(out, *body)
+        }
+        Form::Sigma { bind, body } => {
+            write!(out, "sigma ")?;
+            show_binds(out, &[*bind])?;
+            show_raw(out, *body)
+        }
+        Form::Lambda { binds, body } => {
+            write!(out, "lambda ")?;
+            show_binds(out, binds.as_slice())?;
+            show_raw(out, *body)
+        }
+        leaf => write!(out, "{leaf:?} "),
+    }
+}
+
+fn show_command(out: &mut String, command: &Command) -> Result<(), AllocError> {
+    match command {
+        Command::Def {
+            first,
+            count,
+            name,
+            uses,
+            binds,
+            of,
+            body,
+        } => {
+            write!(
+                out,
+                "def {first} {count} {}.{} ",
+                name.name.as_str(),
+                name.at
+            )?;
+            show_words(out, uses.as_slice())?;
+            show_binds(out, binds.as_slice())?;
+            show_raw(out, *of)?;
+            show_raw(out, *body)
+        }
+        Command::Post {
+            first,
+            count,
+            name,
+            uses,
+            binds,
+            of,
+        } => {
+            write!(
+                out,
+                "postulate {first} {count} {}.{} ",
+                name.name.as_str(),
+                name.at
+            )?;
+            show_words(out, uses.as_slice())?;
+            show_binds(out, binds.as_slice())?;
+            show_raw(out, *of)
+        }
+        Command::Check {
+            first,
+            count,
+            term,
+            of,
+        } => {
+            write!(out, "check {first} {count} ")?;
+            show_raw(out, *term)?;
+            show_raw(out, *of)
+        }
+        Command::Compute { first, count, term } => {
+            write!(out, "compute {first} {count} ")?;
+            show_raw(out, *term)
+        }
+        Command::Section { first, count, name } => {
+            write!(out, "section {first} {count} ")?;
+            show_title(out, name)
+        }
+        Command::End { first, count, name } => {
+            write!(out, "end {first} {count} ")?;
+            show_title(out, name)
+        }
+        Command::Assume {
+            first,
+            count,
+            names,
+            of,
+        } => {
+            write!(out, "assume {first} {count} ")?;
+            show_words(out, names.as_slice())?;
+            show_raw(out, *of)
+        }
+        Command::Option { first, count } => write!(out, "option {first} {count} "),
+    }
+}
+
+fn show(out: &mut String, commands: &Commands) -> Result<(), AllocError> {
+    for shape in commands.shapes.as_slice() {
+        show_shape(out, shape)?;
+    }
+    write!(out, "; ")?;
+    for form in commands.forms.as_slice() {
+        show_form(out, form)?;
+    }
+    write!(out, "; ")?;
+    for command in commands.list.as_slice() {
+        show_command(out, command)?;
+    }
+    Ok(())
+}
+
+fn repeated(
+    alloc: Global,
+    deep: &(&str, &str, &str, u64, u64),
+    times: u64,
+) -> Result<String, AllocError> {
+    let mut source = String::from_str(alloc, "#lang rzk-1 #compute ")?;
+    for _ in 0..times {
+        source.push_str(deep.0)?;
+    }
+    source.push_str(deep.1)?;
+    for _ in 0..times {
+        source.push_str(deep.2)?;
+    }
+    Ok(source)
+}
+
+// The fault of a source, if there is one.
+fn fault_of(alloc: Global, source: &str) -> Option<ParseFault> {
+    match tokens(alloc, source) {
+        Ok(found) => parse(alloc, source, found.as_slice()).err(),
+        Err(_) => Some(ParseFault::OutOfMemory),
+    }
+}
+
+#[test]
+fn tokens_are_read_or_refused(rt: HostRuntime) -> Result<(), Fail> {
+    for (source, place) in READ {
+        let source = format!(in rt.alloc(); "#lang rzk-1 {source}")?;
+        let wanted = place.map(|token| ParseFault::Syntax { token });
+        assert_eq!(rt;
+            fault_of(rt.alloc(), source.as_str()),
+            wanted,
+            "in {source}"
+        );
+    }
+    for source in ["", "x", "rzk-1 #lang", "#def x : U := U"] {
+        assert_eq!(rt;
+            fault_of(rt.alloc(), source),
+            Some(ParseFault::NoLang),
+            "in {source}"
+        );
+    }
+    assert_eq!(rt;
+        fault_of(rt.alloc(), "#lang"),
+        Some(ParseFault::Syntax { token: 1 })
+    );
+    Ok(())
+}
+
+#[test]
+fn trees_are_built(rt: HostRuntime) -> Result<(), Fail> {
+    for (source, wanted) in TREES {
+        let source = format!(in rt.alloc(); "#lang rzk-1 {source}")?;
+        let found = tokens(rt.alloc(), source.as_str())
+            .ok()
+            .ok_or("the text has tokens")?;
+        let commands = parse(rt.alloc(), source.as_str(), found.as_slice())
+            .ok()
+            .ok_or("the tokens are a file")?;
+        let mut out = String::new(rt.alloc());
+        show(&mut out, &commands)?;
+        assert_eq!(rt; out.as_str().trim_end(), *wanted, "in {source}");
+    }
+    Ok(())
+}
+
+#[test]
+fn levels_end(rt: HostRuntime) -> Result<(), Fail> {
+    for deep in DEEP {
+        let source = repeated(rt.alloc(), deep, deep.3)?;
+        assert_eq!(rt;
+            fault_of(rt.alloc(), source.as_str()),
+            None,
+            "with {}",
+            deep.0
+        );
+        let source = repeated(rt.alloc(), deep, deep.3.saturating_add(1))?;
+        let wanted = if deep.4 == 0 {
+            None
+        } else {
+            Some(ParseFault::TooNested { token: deep.4 })
+        };
+        assert_eq!(rt;
+            fault_of(rt.alloc(), source.as_str()),
+            wanted,
+            "with {}",
+            deep.0
+        );
+    }
+    Ok(())
+}
