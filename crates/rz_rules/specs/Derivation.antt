@@ -5,12 +5,15 @@ use Rattle.rz_rules.specs.declared.judgments.JudgmentKind.TheVariants.{Holds}
 use Rattle.rz_rules.specs.declared.symbols.Condition.{Condition}
 use Rattle.rz_rules.specs.declared.symbols.Condition.TheVariants.{FewLeaves, TopeOver, PointOf}
 use Rattle.rz_rules.specs.declared.rows.Row.{Row}
+use Rattle.rz_rules.specs.declared.rows.Scheme.{Scheme}
+use Rattle.rz_rules.specs.declared.rows.Scheme.TheVariants as scheme
 use Rattle.rz_rules.specs.Tree.{Tree}
 use Rattle.rz_rules.specs.Cube.{binders_of, leaves}
 use Rattle.rz_rules.specs.Tope.{IsPointOf, IsTopeOver}
 use Rattle.rz_rules.specs.Judgment.{Statement, IsStatement}
 use Rattle.rz_rules.specs.Row.{Assignment, IsInstance}
 use Rattle.rz_rules.specs.Table.{Rule, rule_of}
+use Rattle.rz_rules.specs.Structural.{ConcludesBy}
 
 -- a line over trees
 pub record Step : Type 0 where
@@ -33,12 +36,19 @@ IsMet assignment (PointOf context cube point) =
     IsPointOf (binders_of (assignment.letters context.number)) (assignment.letters cube.number) (assignment.letters point.number)
 
 -- For some trees in the place of its letters, which meet the rule's conditions, the rule's text spells the premises and
--- then the conclusion. No rule of the table uses the line's number, which is 0.
-pub record Applies (rule : Rule) (number : ℕ) (premises : List Statement) (conclusion : Statement) : Type 0 where
-  pub unused : number ≡ 0
+-- then the conclusion.
+pub record IsSpelled (rule : Rule) (premises : List Statement) (conclusion : Statement) : Type 0 where
   pub assignment : Assignment
   pub instance : IsInstance rule.text assignment (premises ++ conclusion ∷ [])
   pub conditions : All (IsMet assignment) rule.conditions
+
+-- A rule leads from premises to a conclusion: by its text, which has no use for the line's number, or by its scheme.
+abbrev pub AppliesBy : Scheme → Rule → ℕ → List Statement → Statement → Type 0
+AppliesBy scheme.Text rule number premises conclusion = (number ≡ 0) × IsSpelled rule premises conclusion
+AppliesBy scheme rule number premises conclusion = ConcludesBy scheme number premises conclusion
+
+abbrev pub Applies : Rule → ℕ → List Statement → Statement → Type 0
+Applies rule number premises conclusion = AppliesBy rule.scheme rule number premises conclusion
 
 -- the line says something of trees, and follows by its row's rule from the earlier ones that it names
 pub record Follows (earlier : List Statement) (step : Step) : Type 0 where

@@ -5,9 +5,13 @@ pub mod Tree
 pub mod Substitution
 pub mod Cube
 pub mod Tope
+pub mod Coordinate
+pub mod Validity
 pub mod Judgment
 pub mod Row
 pub mod Text
 pub mod Table
+pub mod Context
+pub mod Structural
 pub mod Derivation
 pub mod File

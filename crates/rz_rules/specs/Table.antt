@@ -1,9 +1,13 @@
 -- The row table: the rule of each row.
-use Rattle.std.specs.Prelude.{◌≡◌, ℕ, List, Some, find, refl}
+use Rattle.std.specs.Prelude.{◌≡◌, ℕ, List, Option, Some, None, find, refl}
 use Rattle.std.specs.Str.{bytes_eq}
 use Rattle.std.specs.Borrow.{Bor}
 use Rattle.rz_rules.specs.declared.symbols.Symbol.{Symbol}
 use Rattle.rz_rules.specs.declared.symbols.Condition.{Condition}
+use Rattle.rz_rules.specs.declared.kinds.Kind.{Kind}
+use Rattle.rz_rules.specs.declared.kinds.Kind.TheVariants as kind
+use Rattle.rz_rules.specs.declared.rows.Scheme.{Scheme}
+use Rattle.rz_rules.specs.declared.rows.Scheme.TheVariants as scheme
 use Rattle.rz_rules.specs.declared.rows.Row.{Row}
 use Rattle.rz_rules.specs.declared.rows.Row.TheVariants as row
 use Rattle.rz_rules.specs.declared.rows.TheConstants as table
@@ -14,9 +18,11 @@ use Rattle.rz_rules.specs.declared.rows.congruence.TheConstants as congruence
 use Rattle.rz_rules.specs.declared.rows.computation.TheConstants as computation
 use Rattle.rz_rules.specs.declared.rows.structural.TheConstants as structural
 
--- a rule: its word in a derivation file, its premises and then its conclusion in prefix notation, and its conditions
+-- A rule: its word in a derivation file, how it leads to its conclusion, and where its text says that, its premises and
+-- then its conclusion in prefix notation, and its conditions.
 pub record Rule : Type 0 where
   pub word : List ℕ
+  pub scheme : Scheme
   pub text : List Symbol
   pub conditions : List Condition
 
@@ -26,9 +32,12 @@ pub record IsRule (rule : Rule) (entry : Bor (List ℕ) × Bor (List Symbol) × 
   pub text : entry.1.now ≡ rule.text
   pub conditions : entry.2.now ≡ rule.conditions
 
--- an entry of the code's table as a rule
+-- an entry of the code's table as a rule of a scheme
+abbrev pub rule_by : Scheme → record { now : List ℕ } × record { now : List Symbol } × record { now : List Condition } → Rule
+rule_by scheme entry = record { word = entry.0.now; scheme = scheme; text = entry.1.now; conditions = entry.2.now }
+
 abbrev pub rule : record { now : List ℕ } × record { now : List Symbol } × record { now : List Condition } → Rule
-rule entry = record { word = entry.0.now; text = entry.1.now; conditions = entry.2.now }
+rule entry = rule_by scheme.Text entry
 
 -- the rule of each row
 abbrev pub rule_of : Row → Rule
@@ -117,9 +126,42 @@ rule_of row.RecOrRight = rule computation.REC_OR_RIGHT_RULE
 rule_of row.RecOrEta = rule computation.REC_OR_ETA_RULE
 rule_of row.RecBottomEta = rule computation.REC_BOTTOM_ETA_RULE
 rule_of row.PointReplacement = rule computation.POINT_REPLACEMENT_RULE
+rule_of row.Hypothesis = rule_by scheme.Hypothesis structural.HYPOTHESIS_RULE
+rule_of row.Variable = rule_by scheme.Variable structural.VARIABLE_RULE
+rule_of row.Weakening = rule_by scheme.Weakening structural.WEAKENING_RULE
+rule_of row.TermCut = rule_by scheme.TermCut structural.TERM_CUT_RULE
+rule_of row.CubeCut = rule_by scheme.CubeCut structural.CUBE_CUT_RULE
+rule_of row.TopeCut = rule_by scheme.TopeCut structural.TOPE_CUT_RULE
+rule_of row.ContextOf = rule_by scheme.ContextOf structural.CONTEXT_OF_RULE
 rule_of row.TypeOf = rule structural.TYPE_OF_RULE
 rule_of row.LeftSide = rule structural.LEFT_SIDE_RULE
 rule_of row.RightSide = rule structural.RIGHT_SIDE_RULE
+rule_of row.Inversion = rule_by scheme.Inversion structural.INVERSION_RULE
+rule_of row.OwnType = rule_by scheme.OwnType structural.OWN_TYPE_RULE
+
+-- the row that types the terms of a former; variables have none
+abbrev pub typing_row : Kind → Option Row
+typing_row kind.Universe = Some row.Universe
+typing_row kind.Constant = Some row.Constant
+typing_row kind.Postulate = Some row.Postulate
+typing_row kind.Pi = Some row.Pi
+typing_row kind.Sigma = Some row.Sigma
+typing_row kind.Lambda = Some row.Lambda
+typing_row kind.Application = Some row.Application
+typing_row kind.Pair = Some row.Pair
+typing_row kind.First = Some row.First
+typing_row kind.Second = Some row.Second
+typing_row kind.Identity = Some row.Identity
+typing_row kind.Reflexivity = Some row.Reflexivity
+typing_row kind.IdentityInduction = Some row.IdentityInduction
+typing_row kind.UnitType = Some row.UnitType
+typing_row kind.Star = Some row.Star
+typing_row kind.Extension = Some row.Extension
+typing_row kind.ExtensionLambda = Some row.ExtensionLambda
+typing_row kind.ExtensionApplication = Some row.ExtensionApplication
+typing_row kind.RecOr = Some row.RecOr
+typing_row kind.RecBottom = Some row.RecBottom
+typing_row other = None
 
 -- the word of a row in a derivation file
 abbrev pub word_of_row : Row → List ℕ

@@ -24,6 +24,9 @@ trees_of (t ∷ ts) = And t (trees_of ts)
 abbrev pub sort_of : Tree → Sort
 sort_of (At kind number name kids) = (form kind).sort
 
+abbrev pub kind_at : Tree → Kind
+kind_at (At kind number name kids) = kind
+
 -- a variable has its index, a constant or a postulate its name, and no other node has either
 pub record IsLabelled (kind : Kind) (number : ℕ) (name : List ℕ) : Type 0 where
   pub small : number < 2 ^ 32

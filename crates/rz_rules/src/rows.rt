@@ -2,11 +2,14 @@
 //!
 //! A row's text stands in prefix notation: the premises in their order, and then the conclusion. A letter stands for
 //! any tree of its sort, the same at each of its places. Beside its text a row may have conditions on the trees of its
-//! letters. The tables are `contexts`, `topes`, `typing`, `congruence`, `computation` and `structural`.
+//! letters. A few structural rows have a scheme of their own in place of a text: their conclusion is computed from a
+//! premise, from the line's number, and from the entries of a context. The tables are `contexts`, `topes`, `typing`,
+//! `congruence`, `computation` and `structural`.
 
 ghost use Rattle.std.specs.Prelude.{◌≡◌};
-ghost use Rattle.rz_rules.specs.Table.{IsRule, rule_of, word_of_row, all_rows, row_words_are_distinct};
+ghost use Rattle.rz_rules.specs.Table.{IsRule, rule_of, typing_row, word_of_row, all_rows, row_words_are_distinct};
 
+use crate::kinds::Kind;
 use crate::symbols::{Condition, Symbol};
 use crate::words::Worded;
 
@@ -17,7 +20,35 @@ pub mod structural;
 pub mod topes;
 pub mod typing;
 
-/// A rule: its word in a derivation file, its premises and then its conclusion, and what it asks beside its premises.
+/// How a rule leads from its premises to its conclusion.
+///
+/// "The number" is that of the line, and says where a context is cut: so many of its entries stand further in.
+#[derive(Clone, Copy, Debug, PartialEq, Eq)]
+pub enum Scheme {
+    /// Its text spells the premises and the conclusion.
+    Text,
+    /// The tope of an entry holds. The number tells which.
+    Hypothesis,
+    /// The variable of an entry has the entry's type.
+    Variable,
+    /// A judgment holds with one entry more, at the number.
+    Weakening,
+    /// A term takes the place of the term entry at the number.
+    TermCut,
+    /// A point takes the place of the cube entry at the number.
+    CubeCut,
+    /// The tope entry at the number goes, since its tope holds.
+    TopeCut,
+    /// The context of a judgment is formed.
+    ContextOf,
+    /// What the typing row of a term's former asks for. The number tells which of its premises.
+    Inversion,
+    /// A term's type is the type that the typing row of its former gives.
+    OwnType,
+}
+
+/// A rule: its word in a derivation file, its premises and then its conclusion, and what it asks beside its premises. The
+/// text of a rule with a scheme of its own is empty.
 pub type Rule = (&'static str, &'static [Symbol], &'static [Condition]);
 
 /// The rows. The word in a derivation file stands first in each line.
@@ -193,12 +224,30 @@ pub enum Row {
     RecBottomEta,
     /// `q-cube`: a term at a point is the term at each point that equals it.
     PointReplacement,
+    /// `hyp`: the tope of an entry holds.
+    Hypothesis,
+    /// `var`: a variable has the type of its entry.
+    Variable,
+    /// `s-weak`: a judgment holds under one entry more.
+    Weakening,
+    /// `s-term`: a judgment holds with a term in the place of a term entry.
+    TermCut,
+    /// `s-cube`: a judgment holds with a point in the place of a cube entry.
+    CubeCut,
+    /// `s-cut`: a judgment holds without a tope entry whose tope holds.
+    TopeCut,
+    /// `s-ctx`: the context of a judgment is formed.
+    ContextOf,
     /// `s-type`: the type of a term is a type.
     TypeOf,
     /// `s-left`: the left side of an equality has its type.
     LeftSide,
     /// `s-right`: the right side of an equality has its type.
     RightSide,
+    /// `s-inv`: what the typing row of a term's former asks for.
+    Inversion,
+    /// `s-own`: the type of a term equals the one that the typing row of its former gives.
+    OwnType,
 }
 
 /// The rows, in the order of the table.
@@ -288,9 +337,18 @@ pub const ROWS: &[Row] = &[
     Row::RecOrEta,
     Row::RecBottomEta,
     Row::PointReplacement,
+    Row::Hypothesis,
+    Row::Variable,
+    Row::Weakening,
+    Row::TermCut,
+    Row::CubeCut,
+    Row::TopeCut,
+    Row::ContextOf,
     Row::TypeOf,
     Row::LeftSide,
     Row::RightSide,
+    Row::Inversion,
+    Row::OwnType,
 ];
 
 impl Row {
@@ -385,9 +443,36 @@ impl Row {
             Row::RecOrEta => computation::REC_OR_ETA_RULE,
             Row::RecBottomEta => computation::REC_BOTTOM_ETA_RULE,
             Row::PointReplacement => computation::POINT_REPLACEMENT_RULE,
+            Row::Hypothesis => structural::HYPOTHESIS_RULE,
+            Row::Variable => structural::VARIABLE_RULE,
+            Row::Weakening => structural::WEAKENING_RULE,
+            Row::TermCut => structural::TERM_CUT_RULE,
+            Row::CubeCut => structural::CUBE_CUT_RULE,
+            Row::TopeCut => structural::TOPE_CUT_RULE,
+            Row::ContextOf => structural::CONTEXT_OF_RULE,
             Row::TypeOf => structural::TYPE_OF_RULE,
             Row::LeftSide => structural::LEFT_SIDE_RULE,
             Row::RightSide => structural::RIGHT_SIDE_RULE,
+            Row::Inversion => structural::INVERSION_RULE,
+            Row::OwnType => structural::OWN_TYPE_RULE,
+        }
+    }
+
+    /// How the row leads from its premises to its conclusion.
+    pub fn scheme(self) -> Scheme
+        ensures { result ≡ (rule_of self).scheme }
+    {
+        match self {
+            Row::Hypothesis => Scheme::Hypothesis,
+            Row::Variable => Scheme::Variable,
+            Row::Weakening => Scheme::Weakening,
+            Row::TermCut => Scheme::TermCut,
+            Row::CubeCut => Scheme::CubeCut,
+            Row::TopeCut => Scheme::TopeCut,
+            Row::ContextOf => Scheme::ContextOf,
+            Row::Inversion => Scheme::Inversion,
+            Row::OwnType => Scheme::OwnType,
+            _ => Scheme::Text,
         }
     }
 
@@ -403,6 +488,35 @@ impl Row {
         ensures { result.now ≡ (rule_of self).conditions }
     {
         self.rule().2
+    }
+
+    /// The row that types the terms of a former; `None` where the kind is that of a variable or of no term.
+    pub fn of_former(kind: Kind) -> Option<Row>
+        ensures { result ≡ typing_row kind }
+    {
+        match kind {
+            Kind::Universe => Some(Row::Universe),
+            Kind::Constant => Some(Row::Constant),
+            Kind::Postulate => Some(Row::Postulate),
+            Kind::Pi => Some(Row::Pi),
+            Kind::Sigma => Some(Row::Sigma),
+            Kind::Lambda => Some(Row::Lambda),
+            Kind::Application => Some(Row::Application),
+            Kind::Pair => Some(Row::Pair),
+            Kind::First => Some(Row::First),
+            Kind::Second => Some(Row::Second),
+            Kind::Identity => Some(Row::Identity),
+            Kind::Reflexivity => Some(Row::Reflexivity),
+            Kind::IdentityInduction => Some(Row::IdentityInduction),
+            Kind::UnitType => Some(Row::UnitType),
+            Kind::Star => Some(Row::Star),
+            Kind::Extension => Some(Row::Extension),
+            Kind::ExtensionLambda => Some(Row::ExtensionLambda),
+            Kind::ExtensionApplication => Some(Row::ExtensionApplication),
+            Kind::RecOr => Some(Row::RecOr),
+            Kind::RecBottom => Some(Row::RecBottom),
+            _ => None,
+        }
     }
 }
 

@@ -2,7 +2,7 @@ ghost use Rattle.std.specs.Prelude.{◌≡◌, ◌<◌};
 
 use crate::{
     Bytes, Condition, Items, Judgment, JudgmentKind, Kids, Kind, LETTERS, Label, Letter, Line,
-    Name, Node, Numbers, OutOfMemory, Row, Sort, Space, Steps, Symbol, Worded, is_name,
+    Name, Node, Numbers, OutOfMemory, Row, Scheme, Sort, Space, Steps, Symbol, Worded, is_name,
 };
 use std::alloc::{AllocError, Global};
 use std::marker::Brand;
@@ -60,7 +60,8 @@ const KINDS: &[(&str, Kind, &str, &str)] = &[
     ("xterm", Kind::TermEntry, "C", "C a"),
 ];
 
-/// Each row in words, written from the printed rules: its premises, its conclusion, and then what it asks beside them.
+/// Each row in words, written from the printed rules: its premises, its conclusion, and then what it asks beside them;
+/// nothing where the row has a scheme of its own.
 /// `few I` is a cube of few leaves, `over C P` a tope over a context, `point C I S` a point of a cube over a context; `n`
 /// is the name that the row speaks of.
 const ROWS: &[(&str, Row, &str)] = &[
@@ -401,9 +402,31 @@ const ROWS: &[(&str, Row, &str)] = &[
         Row::PointReplacement,
         "has xtope xcube C I P X A holds C teq I S T holds C put-t P S same C put-t X S put-t X T put-t A S",
     ),
+    ("hyp", Row::Hypothesis, ""),
+    ("var", Row::Variable, ""),
+    ("s-weak", Row::Weakening, ""),
+    ("s-term", Row::TermCut, ""),
+    ("s-cube", Row::CubeCut, ""),
+    ("s-cut", Row::TopeCut, ""),
+    ("s-ctx", Row::ContextOf, ""),
     ("s-type", Row::TypeOf, "has C X A has C A U"),
     ("s-left", Row::LeftSide, "same C X Y A has C X A"),
     ("s-right", Row::RightSide, "same C X Y A has C Y A"),
+    ("s-inv", Row::Inversion, ""),
+    ("s-own", Row::OwnType, ""),
+];
+
+/// The rows that have no text, each with its scheme.
+const SCHEMES: &[(Row, Scheme)] = &[
+    (Row::Hypothesis, Scheme::Hypothesis),
+    (Row::Variable, Scheme::Variable),
+    (Row::Weakening, Scheme::Weakening),
+    (Row::TermCut, Scheme::TermCut),
+    (Row::CubeCut, Scheme::CubeCut),
+    (Row::TopeCut, Scheme::TopeCut),
+    (Row::ContextOf, Scheme::ContextOf),
+    (Row::Inversion, Scheme::Inversion),
+    (Row::OwnType, Scheme::OwnType),
 ];
 
 /// The letters by their numbers, each with its sort as in `KINDS`.
@@ -568,6 +591,25 @@ fn rows_are_as_printed(rt: HostRuntime) -> Result<(), Fail> {
         assert_eq!(rt; words.as_str(), *text, "{word}");
     }
     assert!(rt; Row::of_word(b"").is_none());
+    for (row, scheme) in SCHEMES {
+        assert_eq!(rt; row.scheme(), *scheme);
+    }
+    Ok(())
+}
+
+/// Each former's row has the former's word, but for the universe, whose row is `univ`.
+#[test]
+fn formers_have_their_rows(rt: HostRuntime) -> Result<(), Fail> {
+    for (word, kind, sort, _) in KINDS {
+        let row = Row::of_former(*kind).map(|row| row.word());
+        let wanted = match (*word, *sort) {
+            ("U", _) => Some("univ"),
+            ("v", _) => None,
+            (word, "a") => Some(word),
+            _ => None,
+        };
+        assert_eq!(rt; row, wanted);
+    }
     Ok(())
 }
 
