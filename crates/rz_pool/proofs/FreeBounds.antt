@@ -65,7 +65,7 @@ module _ (tree : ℕ → Tree) (space : Space) where
   abbrev pub bound_of : List Slot → List ℕ → ℕ
   bound_of slots ids = kids_bound space slots (trees_of (map tree ids))
 
-  bound_of_suc : (slots : List Slot) (ids : List ℕ) (i : ℕ) (d : Slot) → i < length ids → i < length slots
+  pub bound_of_suc : (slots : List Slot) (ids : List ℕ) (i : ℕ) (d : Slot) → i < length ids → i < length slots
       → bound_of slots (take (suc i) ids) ≡ max (bound_of slots (take i ids)) (free_bound space (tree (get_or ids i 0)) - bound (get_or slots i d) space)
   bound_of_suc slots [] i d l m = absurd (omega arith)
   bound_of_suc [] (id ∷ ids) i d l m = absurd (omega arith)

@@ -1,6 +1,7 @@
 pub mod Nodes
 pub mod FreeBounds
-pub mod KeptBounds
+pub mod FreeLeasts
+pub mod KeptSpans
 pub mod Sets
 pub mod Orders
 pub mod Listing

@@ -1,5 +1,6 @@
 pub mod Part
 pub mod Counts
+pub mod Spans
 pub mod Pool
 pub mod Free
 pub mod Copy

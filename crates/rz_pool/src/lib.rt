@@ -8,6 +8,7 @@ mod forms;
 mod free;
 mod keys;
 mod pool;
+mod spans;
 
 pub use counts::Counts;
 pub use keys::HashKey;

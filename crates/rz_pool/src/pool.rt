@@ -3,11 +3,11 @@
 ghost use Rattle.std.specs.Prelude.{IsTrue, ◌≡◌, [], Some, ◌+◌, ◌<◌, ◌≤◌, ◌↔◌, ℕ, length, take, slice_get, Contains, IsOk, IfOk, OnOk, OnErr};
 ghost use Rattle.rz_rules.specs.Tree.{HasForm, tree_of, tree_over, trees_in};
 ghost use Rattle.rz_rules.specs.Substitution.{NoneFrom};
-ghost use Rattle.rz_pool.specs.Free.{free_bound, IsBoundOf};
+ghost use Rattle.rz_pool.specs.Free.{free_bound, free_least, NoneBetween, AreSpansOf};
 ghost use Rattle.rz_pool.specs.Pool.{IsPool, Grows, Makes};
 
-use crate::counts::Counts;
 use crate::keys::HashKey;
+use crate::spans::Spans;
 use indexmap::IndexMap;
 use rz_rules::{Node, OutOfMemory, Space};
 use std::alloc::Global;
@@ -16,21 +16,21 @@ use std::marker::Model;
 /// Nodes by their ids, which count up from 0 in the order in which the nodes were made.
 #[derive(Debug, Drop)]
 pub struct Pool {
-    /// Each node, with the bounds of the free variables of its tree.
-    nodes: IndexMap<Node, Counts, HashKey>,
+    /// Each node, with the spans of the free variables of its tree.
+    nodes: IndexMap<Node, Spans, HashKey>,
 }
 
 impl Model for Pool {
     ghost use Rattle.indexmap.specs.IndexMap.{keys, values, spare};
     ghost use Rattle.rz_pool.specs.Pool.{Contents, IsPool};
-    ghost use Rattle.rz_pool.specs.Free.{HaveBounds};
+    ghost use Rattle.rz_pool.specs.Free.{HaveSpans};
 
     ghost Value = { Contents };
 
     ghost view = { λ pool. record { nodes = keys pool.nodes; spare = spare pool.nodes } };
 
     ghost invariant = { λ pool. IsPool (keys pool.nodes)
-        × HaveBounds (keys pool.nodes) (values pool.nodes) };
+        × HaveSpans (keys pool.nodes) (values pool.nodes) };
 }
 
 impl Pool {
@@ -63,11 +63,10 @@ impl Pool {
         *self.nodes.allocator()
     }
 
-    /// The id of a node in this pool: that of the equal node where there is one, else a new last
-    /// one.
+    /// The id of a node in this pool: that of the equal node where there is one, else a new one,
+    /// the last.
     ///
-    /// Its kids are ids of this pool. `accepts` tells whether a node has the form that is asked
-    /// for.
+    /// Its kids are ids of this pool. `accepts` tells whether a node has the form that it needs.
     pub fn make(&mut self, node: Node) -> Result<u64, OutOfMemory>
         requires { HasForm (trees_in self.old.nodes) (length self.old.nodes) node }
         ensures makes { IfOk result (Makes self.old.nodes node self.new.nodes) }
@@ -86,8 +85,8 @@ impl Pool {
         ensures grows { Grows self.old.nodes self.new.nodes }
         ensures pool { IsPool self.new.nodes }
     {
-        let bounds = self.bounds_of(&node);
-        let (id, _) = self.nodes.insert_full(node, bounds)?;
+        let spans = self.spans_of(&node);
+        let (id, _) = self.nodes.insert_full(node, spans)?;
         Ok(id as u64)
     }
 
@@ -105,10 +104,10 @@ impl Pool {
         }
     }
 
-    /// The bounds of the free variables of a tree.
-    pub(crate) fn bounds(&self, id: u64) -> Counts
+    /// The spans of the free variables of a tree.
+    pub(crate) fn spans(&self, id: u64) -> Spans
         requires { id < length self.now.nodes }
-        ensures bounds { IsBoundOf (tree_of self.now.nodes id) result }
+        ensures spans { AreSpansOf (tree_of self.now.nodes id) result }
         ensures pool { IsPool self.now.nodes }
     {
         self.nodes[id as usize]
@@ -124,7 +123,21 @@ impl Pool {
             → NoneFrom space limit (tree_of self.now.nodes id) ↔ (result ≤ limit) }
         ensures pool { IsPool self.now.nodes }
     {
-        self.bounds(id).of(space)
+        self.spans(id).of(space).bound
+    }
+
+    /// An index below which the tree of an id has no free variable of a space.
+    ///
+    /// It is the least index of a free variable, or it is 0. A node keeps this one number and not
+    /// all the indices, so it may be 0 where a binder in the tree has taken away the least of them.
+    pub fn free_least(&self, space: Space, id: u64) -> u64
+        requires { id < length self.now.nodes }
+        ensures value { result ≡ free_least space (tree_of self.now.nodes id) }
+        ensures least { 0 < result → (limit : ℕ)
+            → NoneBetween space 0 limit (tree_of self.now.nodes id) ↔ (limit ≤ result) }
+        ensures pool { IsPool self.now.nodes }
+    {
+        self.spans(id).of(space).least
     }
 
     /// Whether two ids stand for one tree: they do exactly where they are equal.

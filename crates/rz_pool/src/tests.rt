@@ -64,8 +64,9 @@ const OPEN: &[(Row, u64)] = &[
     ((Kind::Constant, 0, "a", &[0, 0]), 6),
 ];
 
-/// For each of these ids the least index from which its tree has no free term variable.
-const BOUNDS: &[u64] = &[4, 1, 0, 4, 0, 3, 0];
+/// For each of these ids the least index from which its tree has no free term variable, and an
+/// index below which it has none.
+const SPANS: &[(u64, u64)] = &[(4, 3), (1, 0), (0, 0), (4, 2), (0, 0), (3, 2), (0, 0)];
 
 /// The node of a row.
 fn node(rt: &impl Abort, alloc: Global, row: Row) -> Result<Node, Fail> {
@@ -212,9 +213,10 @@ fn free_variables(rt: HostRuntime) -> Result<(), Fail> {
     add_all(&rt, alloc, &mut pool, OPEN)?;
     assert_eq!(rt; pool.hash_key().second, 2);
     let mut id = 0;
-    for bound in BOUNDS {
+    for (bound, least) in SPANS {
         assert!(rt; id < pool.len());
         assert_eq!(rt; pool.free_bound(Space::Terms, id), *bound);
+        assert_eq!(rt; pool.free_least(Space::Terms, id), *least);
         assert_eq!(rt; pool.free_bound(Space::Points, id), 0);
         id += 1;
     }

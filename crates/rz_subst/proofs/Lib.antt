@@ -1,5 +1,6 @@
 pub mod Places
 pub mod Staying
+pub mod Sharing
 pub mod Listing
 pub mod Making
 pub mod Answering

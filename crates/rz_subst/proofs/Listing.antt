@@ -1,7 +1,7 @@
 -- The list of the places in a tree, while it is made.
-use Rattle.std.proofs.Common.{◌≡◌, ℕ, ◌<◌, ◌^◌, Bool, true, false, cond, List, [], ◌∷◌, ◌++◌, Option, Some, length, map, All, Contains, slice_get, refl, sym, subst, ◌∙◌, ◌⊎◌, inl, inr, true≢false, arith}
+use Rattle.std.proofs.Common.{◌≡◌, ℕ, ◌<◌, ◌^◌, Bool, true, false, cond, List, [], ◌∷◌, ◌++◌, Some, length, map, All, Contains, slice_get, refl, sym, subst, ◌∙◌, ◌⊎◌, inl, inr, true≢false, arith}
 use Rattle.std.specs.Ordering.{is_eq}
-use Rattle.std.proofs.lemmas.List.Elements.{All-head, All-tail, All-weaker, All-cons, All-nil, All-push, Contains-push, Contains-append_left}
+use Rattle.std.proofs.lemmas.List.Elements.{All-head, All-tail, All-weaker, All-cons, All-nil, All-push, All-map, Contains-push, Contains-append_left}
 use Rattle.rz_rules.specs.declared.kinds.Role.{Role}
 use Rattle.rz_rules.specs.declared.kinds.Role.TheVariants.{Variable, Declared, Former}
 use Rattle.rz_rules.specs.declared.kinds.Slot.{Slot}
@@ -10,11 +10,13 @@ use Rattle.rz_rules.specs.declared.nodes.Node.{Node}
 use Rattle.rz_rules.specs.Form.{form}
 use Rattle.rz_rules.specs.Tree.{Trees, trees_of, trees_in, tree_over, tree_of}
 use Rattle.rz_rules.specs.Substitution.{Depth, Changes, changed, changed_kids, changed_node, first_slot, other_slots, IndicesBelow, AllIndicesBelow}
+use Rattle.rz_subst.specs.declared.walk.Extent.{Extent}
 use Rattle.rz_subst.specs.declared.walk.Place.{Place}
 use Rattle.rz_subst.specs.contracts.walk.PlaceOrd.TheImpl.{cmp-value}
 use Rattle.rz_pool.specs.Counts.{depth_of}
-use Rattle.rz_subst.specs.Walk.{kid_place, kid_places, walked, places_below, IsBeyond, IsKid, answer, IsFit, AreSettled, AreNext, ListsPlaces, Joined}
+use Rattle.rz_subst.specs.Walk.{kid_place, kid_places, walked, places_below, shared_place, next_below, IsBeyond, IsKid, KeepsTo, answer, IsFit, AreSettled, AreNext, ListsPlaces, Joined}
 use Rattle.rz_subst.proofs.Places.{depth_kid, equal_places}
+use Rattle.rz_subst.proofs.Sharing.{id-shared, IsFit-shared}
 
 -- the kids of a place whose answer fits have fitting answers
 module _ (changes : Changes) (nodes : List Node) (place : Place) where
@@ -55,7 +57,7 @@ kids_low place bound slots (kid ∷ kids) low =
     All-cons (λ (k : Place). k.id < bound) (kid_place place (first_slot slots) kid) (kid_places place (other_slots slots) kids) (All-head (λ k. k < bound) kid kids low)
     (kids_low place bound (other_slots slots) kids (All-tail (λ k. k < bound) kid kids low))
 
-below_low : (place : Place) (bound : ℕ) (node : Node) → All (λ kid. kid < bound) node.kids → All (λ (kid : Place). kid.id < bound) (places_below place node)
+pub below_low : (place : Place) (bound : ℕ) (node : Node) → All (λ kid. kid < bound) node.kids → All (λ (kid : Place). kid.id < bound) (places_below place node)
 below_low place bound node low = by (form node.kind).role
   where
     by : (role : Role) → All (λ (kid : Place). kid.id < bound) (walked role (kid_places place (form node.kind).kids node.kids))
@@ -68,7 +70,7 @@ pub each : (P : Place → Type 0) (places : List Place) (place : Place) → All 
 each P places place all (k, l, e) = subst P e (all k place l)
 
 -- settled places, where one more is listed
-settled_push : (reach : Space → Option ℕ) (nodes : List Node) (places : List Place) (part : Place) (S T : Place → Type 0) → AreSettled reach nodes places S
+settled_push : (reach : Space → Extent) (nodes : List Node) (places : List Place) (part : Place) (S T : Place → Type 0) → AreSettled reach nodes places S
     → ((q : Place) → S q → (q ≡ part) ⊎ T q) → ((q : Place) → IsKid reach nodes part q → T q) → AreSettled reach nodes (places ++ part ∷ []) T
 settled_push reach nodes [] part S T settled stays kids = ((λ q kid. inr (kids q kid)), tt)
 settled_push reach nodes (place ∷ places) part S T settled stays kids = (
@@ -82,7 +84,7 @@ settled_push reach nodes (place ∷ places) part S T settled stays kids = (
   settled_push reach nodes places part S T settled.1 stays kids,
 )
 
-pub settled_weaker : (reach : Space → Option ℕ) (nodes : List Node) (places : List Place) (S T : Place → Type 0) → ((q : Place) → S q → T q) → AreSettled reach nodes places S → AreSettled reach nodes places T
+pub settled_weaker : (reach : Space → Extent) (nodes : List Node) (places : List Place) (S T : Place → Type 0) → ((q : Place) → S q → T q) → AreSettled reach nodes places S → AreSettled reach nodes places T
 settled_weaker reach nodes [] S T more settled = tt
 settled_weaker reach nodes (place ∷ places) S T more settled = (
   (λ q kid. elim (settled.0 q kid) [ inl after ↦ inl after | inr s ↦ inr (more q s) ]),
@@ -90,41 +92,45 @@ settled_weaker reach nodes (place ∷ places) S T more settled = (
 )
 
 -- the places to which the walk goes on
-pub AreNext-beyond : (reach : Space → Option ℕ) (nodes : List Node) (place : Place) → IsBeyond reach nodes place → AreNext reach nodes place []
+pub AreNext-beyond : (reach : Space → Extent) (nodes : List Node) (place : Place) → IsBeyond reach nodes place → AreNext reach nodes place []
 AreNext-beyond reach nodes place beyond = record {
   all = λ kid is. absurd (is.goes beyond);
   live = All-nil (λ (kid : Place). kid.id < length nodes);
-  fits = λ changes fit. All-nil (IsFit changes nodes);
+  fits = λ changes keeps fit. All-nil (IsFit changes nodes);
 }
 
-pub AreNext-below : (reach : Space → Option ℕ) (nodes : List Node) (place : Place) (node : Node) → place.id < length nodes → slice_get nodes place.id ≡ Some node
-    → tree_of nodes place.id ≡ tree_over (trees_in nodes) node → All (λ kid. kid < place.id) node.kids → AreNext reach nodes place (places_below place node)
+pub AreNext-below : (reach : Space → Extent) (nodes : List Node) (place : Place) (node : Node) → place.id < length nodes → slice_get nodes place.id ≡ Some node
+    → tree_of nodes place.id ≡ tree_over (trees_in nodes) node → All (λ kid. kid < place.id) node.kids → AreNext reach nodes place (next_below reach nodes place node)
 AreNext-below reach nodes place node live at tree low = record {
   all = λ kid is.
       let found : Some node ≡ Some is.node = sym at ∙ is.at in
       let same : is.node ≡ node = cc in
-      subst (λ (n : Node). Contains (places_below place n) kid) same is.is;
-  live = All-weaker (λ (kid : Place). kid.id < place.id) (λ (kid : Place). kid.id < length nodes) (λ kid l. omega (arith, live)) (places_below place node) (below_low place place.id node low);
-  fits = λ changes fit. below_fit changes nodes place node tree low fit;
+      subst (λ (n : Node). Contains (next_below reach nodes place n) kid) same is.is;
+  live = All-map (λ (kid : Place). kid.id < length nodes) (shared_place reach nodes) (places_below place node)
+      (All-weaker (λ (kid : Place). kid.id < place.id) (λ (kid : Place). (shared_place reach nodes kid).id < length nodes) (λ kid l. omega (arith, live, l, id-shared reach nodes kid))
+      (places_below place node) (below_low place place.id node low));
+  fits = λ changes keeps fit. All-map (IsFit changes nodes) (shared_place reach nodes) (places_below place node)
+      (All-weaker (IsFit changes nodes) (λ (kid : Place). IsFit changes nodes (shared_place reach nodes kid)) (IsFit-shared reach changes keeps nodes)
+      (places_below place node) (below_fit changes nodes place node tree low fit));
 }
 
 -- some places are listed, and others wait
-pub record IsListing (reach : Space → Option ℕ) (nodes : List Node) (whole : Place) (waits : Place → Bool) (places : List Place) : Type 0 where
+pub record IsListing (reach : Space → Extent) (nodes : List Node) (whole : Place) (waits : Place → Bool) (places : List Place) : Type 0 where
   pub top : Contains places whole ⊎ (waits whole ≡ true)
   pub live : (q : Place) → waits q ≡ true → q.id < length nodes
   pub listed_live : All (λ (place : Place). place.id < length nodes) places
-  pub waiting : (changes : Changes) → IndicesBelow (2 ^ 32) (answer changes nodes whole) → (q : Place) → waits q ≡ true → IsFit changes nodes q
-  pub listed : (changes : Changes) → IndicesBelow (2 ^ 32) (answer changes nodes whole) → All (IsFit changes nodes) places
+  pub waiting : (changes : Changes) → KeepsTo reach changes → IndicesBelow (2 ^ 32) (answer changes nodes whole) → (q : Place) → waits q ≡ true → IsFit changes nodes q
+  pub listed : (changes : Changes) → KeepsTo reach changes → IndicesBelow (2 ^ 32) (answer changes nodes whole) → All (IsFit changes nodes) places
   pub settled : AreSettled reach nodes places (λ q. waits q ≡ true)
 
-pub IsListing-start : (reach : Space → Option ℕ) (nodes : List Node) (whole : Place) (waits : Place → Bool) → whole.id < length nodes → waits whole ≡ true
+pub IsListing-start : (reach : Space → Extent) (nodes : List Node) (whole : Place) (waits : Place → Bool) → whole.id < length nodes → waits whole ≡ true
     → ((q : Place) → waits q ≡ true → q ≡ whole) → IsListing reach nodes whole waits []
 IsListing-start reach nodes whole waits l top only = record {
   top = inr top;
   live = λ q h. subst (λ (p : Place). p.id < length nodes) (sym (only q h)) l;
   listed_live = All-nil (λ (place : Place). place.id < length nodes);
-  waiting = λ changes fits q h. subst (IsFit changes nodes) (sym (only q h)) (record { live = l; indices = fits });
-  listed = λ changes fits. All-nil (IsFit changes nodes);
+  waiting = λ changes keeps fits q h. subst (IsFit changes nodes) (sym (only q h)) (record { live = l; indices = fits });
+  listed = λ changes keeps fits. All-nil (IsFit changes nodes);
   settled = tt;
 }
 
@@ -133,7 +139,7 @@ cond_cases true a h = absurd (true≢false (sym h))
 cond_cases false a h = (refl, h)
 
 -- one more place is listed, which waited, and those to which the walk goes on wait
-module _ (reach : Space → Option ℕ) (nodes : List Node) (whole : Place) (waits : Place → Bool) (places : List Place)
+module _ (reach : Space → Extent) (nodes : List Node) (whole : Place) (waits : Place → Bool) (places : List Place)
     (listing : IsListing reach nodes whole waits places) (part : Place) (here : waits part ≡ true) (below : List Place) (next : AreNext reach nodes part below)
     (left more : Place → Bool)
     (gone : (q : Place) → left q ≡ cond (is_eq (cmp-value.it part q)) false (waits q))
@@ -166,15 +172,15 @@ module _ (reach : Space → Option ℕ) (nodes : List Node) (whole : Place) (wai
       | inr kid ↦ each (λ (k : Place). k.id < length nodes) below q next.live kid
     ];
     listed_live = All-push (λ (place : Place). place.id < length nodes) places part listing.listed_live (listing.live part here);
-    waiting = λ changes fits q h. elim (joined.only q h) [
-      | inl w ↦ listing.waiting changes fits q (old_waits q w)
-      | inr kid ↦ each (IsFit changes nodes) below q (next.fits changes (listing.waiting changes fits part here)) kid
+    waiting = λ changes keeps fits q h. elim (joined.only q h) [
+      | inl w ↦ listing.waiting changes keeps fits q (old_waits q w)
+      | inr kid ↦ each (IsFit changes nodes) below q (next.fits changes keeps (listing.waiting changes keeps fits part here)) kid
     ];
-    listed = λ changes fits. All-push (IsFit changes nodes) places part (listing.listed changes fits) (listing.waiting changes fits part here);
+    listed = λ changes keeps fits. All-push (IsFit changes nodes) places part (listing.listed changes keeps fits) (listing.waiting changes keeps fits part here);
     settled = settled_push reach nodes places part (λ q. waits q ≡ true) (λ q. more q ≡ true) listing.settled stays kid_waits;
   }
 
-pub ListsPlaces-end : (reach : Space → Option ℕ) (nodes : List Node) (whole : Place) (waits : Place → Bool) (places : List Place) → IsListing reach nodes whole waits places
+pub ListsPlaces-end : (reach : Space → Extent) (nodes : List Node) (whole : Place) (waits : Place → Bool) (places : List Place) → IsListing reach nodes whole waits places
     → ((q : Place) → waits q ≡ false) → ListsPlaces reach nodes whole places
 ListsPlaces-end reach nodes whole waits places listing none = record {
   top = elim listing.top [ inl listed ↦ listed | inr w ↦ absurd (true≢false (sym w ∙ none whole)) ];

@@ -1,27 +1,31 @@
 -- The answers of the places in a tree, while they are made.
 use Rattle.std.proofs.Common.{◌≡◌, ℕ, ◌<◌, ◌^◌, Bool, true, false, cond, List, [], ◌∷◌, ◌++◌, Option, Some, IfSome, ◌+◌, get_or, length, map, All, Contains, slice_get, unwrap_or, refl, sym, ap, subst, ◌∙◌, ◌⊎◌, inl, inr, true≢false, arith}
-use Rattle.std.proofs.lemmas.List.{length_push, length-map, get_or_append_left}
-use Rattle.std.proofs.lemmas.List.Elements.{All-head, All-tail, All-cons, All-nil, Contains-push, Contains-push_cases, Contains-get_or}
+use Rattle.std.proofs.lemmas.List.{length_push, length-map, get_or-map, get_or_append_left}
+use Rattle.std.proofs.lemmas.List.Elements.{All-head, All-tail, All-cons, All-nil, All-weaker, Contains-push, Contains-push_cases, Contains-get_or}
 use Rattle.rz_rules.specs.declared.kinds.Kind.{Kind}
 use Rattle.rz_rules.specs.declared.kinds.Role.{Role}
 use Rattle.rz_rules.specs.declared.kinds.Role.TheVariants.{Variable, Declared, Former}
 use Rattle.rz_rules.specs.declared.kinds.Slot.{Slot}
 use Rattle.rz_rules.specs.declared.kinds.Space.{Space}
+use Rattle.rz_rules.specs.declared.kinds.Space.TheVariants.{Points, Terms}
 use Rattle.rz_rules.specs.declared.nodes.Node.{Node}
 use Rattle.rz_rules.specs.Form.{form, is_numbered}
 use Rattle.rz_rules.specs.Tree.{Tree, Trees, At, Nil, trees_of, sort_of, trees_in, tree_over, tree_of}
 use Rattle.rz_rules.specs.Substitution.{Depth, Changes, Change, Renumbered, Replaced, changed, changed_kids, changed_node, changed_variable, first_slot, other_slots, IndicesBelow, NoneFrom}
 use Rattle.rz_pool.specs.Counts.{depth_of}
+use Rattle.rz_pool.specs.Free.{free_bound, free_least}
 use Rattle.rz_rules.specs.Tree.{HasForm}
 use Rattle.rz_pool.specs.Pool.{IsPool, Grows}
-use Rattle.rz_pool.proofs.Nodes.{Grows-same, Grows-trans, length-Grows, KeepsTrees-Grows, slice_get-front}
+use Rattle.rz_pool.proofs.Nodes.{Grows-same, Grows-trans, length-Grows, KeepsTrees-Grows, slice_get-front, IsPool-front}
+use Rattle.rz_subst.specs.declared.walk.Extent.{Extent}
 use Rattle.rz_subst.specs.declared.walk.Place.{Place}
 use Rattle.rz_subst.specs.declared.walk.Change.TheVariants as answers
 use Rattle.rz_subst.specs.contracts.walk.PlacePartialEq.TheImpl.{eq-value}
 use Rattle.rz_subst.specs.Sorts.{variable_form, sort_changed}
-use Rattle.rz_subst.specs.Walk.{kid_place, kid_places, walked, places_below, IsBeyond, IsKid, answer, AreSettled, HasMisfit, IsMade, IsChange, FitsChange, KeepsSorts, new_id}
+use Rattle.rz_subst.specs.Walk.{kid_place, kid_places, walked, places_below, shared_place, next_below, lies_past, place_where, IsBeyond, IsKid, KeepsTo, answer, AreSettled, HasMisfit, IsMade, IsChange, FitsChange, KeepsSorts, new_id}
 use Rattle.rz_subst.proofs.Places.{depth_kid, places_Decides}
-use Rattle.rz_subst.proofs.Listing.{each, settled_weaker}
+use Rattle.rz_subst.proofs.Sharing.{id-shared, answer-shared}
+use Rattle.rz_subst.proofs.Listing.{each, below_low, settled_weaker}
 
 -- the kids of a place that have their answers
 module _ (made : Place → Option ℕ) (changes : Changes) (nodes : List Node) (place : Place) where
@@ -167,33 +171,65 @@ module _ (changes : Changes) (nodes : List Node) (place : Place) (node : Node) (
   pub declared_tree : (form node.kind).role ≡ Declared → tree_of nodes place.id ≡ answer changes nodes place
   declared_tree declared = known.tree ∙ sym (answer_is Declared declared)
 
-  -- a node whose kids have their answers
-  module _ (reach : Space → Option ℕ) (goes : ¬ (IsBeyond reach nodes place)) (made : Place → Option ℕ)
+  -- a node the places of whose kids have their answers
+  module _ (reach : Space → Extent) (goes : ¬ (IsBeyond reach nodes place)) (made : Place → Option ℕ)
       (all : (kid : Place) → IsKid reach nodes place kid → IsMade made changes nodes nodes kid) where
-    pub below_made : All (IsMade made changes nodes nodes) (places_below place node)
-    below_made k d l = all (get_or (places_below place node) k d) (record { node = node; at = known.at; goes = goes; is = Contains-get_or (places_below place node) k d l })
+    abbrev shared : Place → Place
+    shared kid = shared_place reach nodes kid
 
-    module _ (former : (form node.kind).role ≡ Former) (ids : List ℕ) (is : ids ≡ map (new_id made) (places_below place node)) where
+    pub below_made : All (IsMade made changes nodes nodes) (next_below reach nodes place node)
+    below_made k d l =
+        all (get_or (next_below reach nodes place node) k d)
+        (record { node = node; at = known.at; goes = goes; is = Contains-get_or (next_below reach nodes place node) k d l })
+
+    -- the answer that serves for a place
+    abbrev served : Place → Option ℕ
+    served kid = made (shared kid)
+
+    module _ (keeps : KeepsTo reach changes) (former : (form node.kind).role ≡ Former) (ids : List ℕ) (is : ids ≡ map (new_id made) (next_below reach nodes place node)) where
+      serves : (kid : Place) → IsMade made changes nodes nodes (shared kid) → IsMade served changes nodes nodes kid
+      serves kid done = record {
+        live = omega (arith, done.live, id-shared reach nodes kid);
+        id = done.id;
+        at = done.at;
+        within = done.within;
+        tree = done.tree ∙ answer-shared reach changes keeps nodes kid;
+      }
+
+      below_served : All (IsMade served changes nodes nodes) (places_below place node)
+      below_served k d l =
+          let kids = places_below place node in
+          let done = below_made k (shared d) (omega (arith, length-map kids shared)) in
+          serves (get_or kids k d) (subst (IsMade made changes nodes nodes) (get_or-map shared kids k d (shared d) l) done)
+
+      ids_served : (kids : List Place) → map (new_id made) (map shared kids) ≡ map (new_id served) kids
+      ids_served [] = refl
+      ids_served (kid ∷ kids) = ap (λ (ks : List ℕ). new_id made (shared kid) ∷ ks) (ids_served kids)
+
       walks : places_below place node ≡ kid_places place (form node.kind).kids node.kids
       walks = ap (λ (role : Role). walked role (kid_places place (form node.kind).kids node.kids)) former
 
-      kids_made : All (IsMade made changes nodes nodes) (kid_places place (form node.kind).kids node.kids)
-      kids_made = subst (All (IsMade made changes nodes nodes)) walks below_made
+      kids_made : All (IsMade served changes nodes nodes) (kid_places place (form node.kind).kids node.kids)
+      kids_made = subst (All (IsMade served changes nodes nodes)) walks below_served
 
-      new_ids : ids ≡ map (new_id made) (kid_places place (form node.kind).kids node.kids)
-      new_ids = is ∙ ap (map (new_id made)) walks
+      new_ids : ids ≡ map (new_id served) (kid_places place (form node.kind).kids node.kids)
+      new_ids = is ∙ (ids_served (places_below place node) ∙ ap (map (new_id served)) walks)
 
       pub remade_form : KeepsSorts changes → HasForm (trees_in nodes) (length nodes) (record { kind = node.kind; number = node.number; name = node.name; kids = ids })
-      remade_form keeps = record {
-        kids = subst (All (λ id. id < length nodes)) (sym new_ids) (made_live made changes nodes place (form node.kind).kids node.kids kids_made);
-        sorts = ap (λ (ks : List ℕ). map sort_of (map (tree_of nodes) ks)) new_ids ∙ (made_sorts made changes nodes place keeps (form node.kind).kids node.kids kids_made ∙ known.form.sorts);
+      remade_form keeps_sorts = record {
+        kids = subst (All (λ id. id < length nodes)) (sym new_ids) (made_live served changes nodes place (form node.kind).kids node.kids kids_made);
+        sorts = ap (λ (ks : List ℕ). map sort_of (map (tree_of nodes) ks)) new_ids ∙ (made_sorts served changes nodes place keeps_sorts (form node.kind).kids node.kids kids_made ∙ known.form.sorts);
         label = known.form.label;
       }
 
       pub remade_tree : tree_over (trees_in nodes) (record { kind = node.kind; number = node.number; name = node.name; kids = ids }) ≡ answer changes nodes place
       remade_tree =
-          ap (At node.kind node.number node.name) (ap (λ (ks : List ℕ). trees_of (map (tree_of nodes) ks)) new_ids ∙ made_trees made changes nodes place (form node.kind).kids node.kids kids_made)
+          ap (At node.kind node.number node.name) (ap (λ (ks : List ℕ). trees_of (map (tree_of nodes) ks)) new_ids ∙ made_trees served changes nodes place (form node.kind).kids node.kids kids_made)
           ∙ sym (answer_is Former former)
+
+-- whether the free variables of a tree at a place are known to be further out than the first that is reached
+abbrev past_in : (Space → Extent) → Place → Tree → Space → Bool
+past_in reach place tree space = lies_past (reach space).start (depth_of place.depth space) (free_bound space tree) (free_least space tree)
 
 -- the answers in a pool that has grown
 module _ (made : Place → Option ℕ) (changes later : Changes) (from to : List Node) (grows : Grows from to) (same : later ≡ changes) where
@@ -202,13 +238,31 @@ module _ (made : Place → Option ℕ) (changes later : Changes) (from to : List
       ap (λ (t : Tree). changed later (depth_of place.depth) t) (KeepsTrees-Grows from to grows place.id l)
       ∙ ap (λ (c : Changes). changed c (depth_of place.depth) (tree_of from place.id)) same
 
-  kid_kept : (reach : Space → Option ℕ) (place kid : Place) → place.id < length from → IsKid reach to place kid → IsKid reach from place kid
-  kid_kept reach place kid l is = record {
-    node = is.node;
-    at = slice_get-front from grows.added place.id is.node l (subst (λ (ns : List Node). slice_get ns place.id ≡ Some is.node) grows.is is.at);
-    goes = λ beyond. is.goes (λ s. subst (λ t. IfSome (reach s) (λ start. NoneFrom s (start + depth_of place.depth s) t)) (sym (KeepsTrees-Grows from to grows place.id l)) (beyond s));
-    is = is.is;
-  }
+  shared_kept : (reach : Space → Extent) (place : Place) → place.id < length from → shared_place reach to place ≡ shared_place reach from place
+  shared_kept reach place l =
+      ap (λ (tree : Tree). place_where reach place (past_in reach place tree Points) (past_in reach place tree Terms))
+      (KeepsTrees-Grows from to grows place.id l)
+
+  all_shared_kept : (reach : Space → Extent) (places : List Place) → All (λ (place : Place). place.id < length from) places
+      → map (shared_place reach to) places ≡ map (shared_place reach from) places
+  all_shared_kept reach [] live = refl
+  all_shared_kept reach (place ∷ places) live =
+      let first = shared_kept reach place (All-head (λ (p : Place). p.id < length from) place places live) in
+      let others = all_shared_kept reach places (All-tail (λ (p : Place). p.id < length from) place places live) in
+      λ i. first i ∷ others i
+
+  kid_kept : (reach : Space → Extent) (place kid : Place) → IsPool from → place.id < length from → IsKid reach to place kid → IsKid reach from place kid
+  kid_kept reach place kid pool l is =
+      let at : slice_get from place.id ≡ Some is.node = slice_get-front from grows.added place.id is.node l (subst (λ (ns : List Node). slice_get ns place.id ≡ Some is.node) grows.is is.at) in
+      let low = below_low place place.id is.node (pool.forms place.id is.node at).kids in
+      let live : All (λ (p : Place). p.id < length from) (places_below place is.node) =
+      All-weaker (λ (p : Place). p.id < place.id) (λ (p : Place). p.id < length from) (λ p m. omega arith) (places_below place is.node) low in
+      record {
+        node = is.node;
+        at = at;
+        goes = λ beyond. is.goes (λ s. subst (λ t. IfSome (reach s).start (λ start. NoneFrom s (start + depth_of place.depth s) t)) (sym (KeepsTrees-Grows from to grows place.id l)) (beyond s));
+        is = subst (λ (ps : List Place). Contains ps kid) (all_shared_kept reach (places_below place is.node) live) is.is;
+      }
 
   made_kept : (place : Place) → IsMade made changes from to place → IsMade made later to to place
   made_kept place done = record {
@@ -220,7 +274,7 @@ module _ (made : Place → Option ℕ) (changes later : Changes) (from to : List
   }
 
 -- some places are still to be made, each after its kids, and the others have their answers
-pub record IsMaking (reach : Space → Option ℕ) (made : Place → Option ℕ) (changes : Changes) (from to : List Node) (every places : List Place) : Type 0 where
+pub record IsMaking (reach : Space → Extent) (made : Place → Option ℕ) (changes : Changes) (from to : List Node) (every places : List Place) : Type 0 where
   pub done : (place : Place) → Contains every place → Contains places place ⊎ IsMade made changes from to place
   pub among : All (λ place. Contains every place) places
   pub settled : AreSettled reach from places (IsMade made changes from to)
@@ -228,7 +282,7 @@ pub record IsMaking (reach : Space → Option ℕ) (made : Place → Option ℕ)
   pub grows : Grows from to
   pub pool : IsPool to
 
-pub IsMaking-start : (reach : Space → Option ℕ) (made : Place → Option ℕ) (changes : Changes) (from : List Node) (places : List Place) → AreSettled reach from places (λ _. ⊥)
+pub IsMaking-start : (reach : Space → Extent) (made : Place → Option ℕ) (changes : Changes) (from : List Node) (places : List Place) → AreSettled reach from places (λ _. ⊥)
     → All (λ (place : Place). place.id < length from) places → IsPool from → IsMaking reach made changes from from places places
 IsMaking-start reach made changes from places settled live pool = record {
   done = λ place among. inl among;
@@ -239,17 +293,17 @@ IsMaking-start reach made changes from places settled live pool = record {
   pool = pool;
 }
 
-pub IsMaking-end : (reach : Space → Option ℕ) (made : Place → Option ℕ) (changes : Changes) (from to : List Node) (every places : List Place)
+pub IsMaking-end : (reach : Space → Extent) (made : Place → Option ℕ) (changes : Changes) (from to : List Node) (every places : List Place)
     → IsMaking reach made changes from to every places → length places ≡ 0 → (place : Place) → Contains every place → IsMade made changes from to place
 IsMaking-end reach made changes from to every places making none place among =
     elim (making.done place among) [ inl left ↦ absurd (omega (arith, left.1)) | inr done ↦ done ]
 
-settled_last : (reach : Space → Option ℕ) (nodes : List Node) (places : List Place) (part : Place) (S : Place → Type 0) → AreSettled reach nodes (places ++ part ∷ []) S
+settled_last : (reach : Space → Extent) (nodes : List Node) (places : List Place) (part : Place) (S : Place → Type 0) → AreSettled reach nodes (places ++ part ∷ []) S
     → (kid : Place) → IsKid reach nodes part kid → S kid
 settled_last reach nodes [] part S settled kid is = elim (settled.0 kid is) [ inl after ↦ absurd (omega (arith, after.1)) | inr s ↦ s ]
 settled_last reach nodes (place ∷ places) part S settled kid is = settled_last reach nodes places part S settled.1 kid is
 
-settled_pop : (reach : Space → Option ℕ) (nodes : List Node) (places : List Place) (part : Place) (S T : Place → Type 0) → ((q : Place) → S q → T q) → T part
+settled_pop : (reach : Space → Extent) (nodes : List Node) (places : List Place) (part : Place) (S T : Place → Type 0) → ((q : Place) → S q → T q) → T part
     → AreSettled reach nodes (places ++ part ∷ []) S → AreSettled reach nodes places T
 settled_pop reach nodes [] part S T more here settled = tt
 settled_pop reach nodes (place ∷ places) part S T more here settled = (
@@ -264,7 +318,7 @@ settled_pop reach nodes (place ∷ places) part S T more here settled = (
 )
 
 -- the last of the places
-module _ (reach : Space → Option ℕ) (made : Place → Option ℕ) (changes : Changes) (from to : List Node) (every places : List Place) (part : Place)
+module _ (reach : Space → Extent) (made : Place → Option ℕ) (changes : Changes) (from to : List Node) (every places : List Place) (part : Place)
     (making : IsMaking reach made changes from to every (places ++ part ∷ [])) where
   last_live : part.id < length from
   last_live = each (λ (place : Place). place.id < length from) (places ++ part ∷ []) part making.live (Contains-push places part)
@@ -317,7 +371,7 @@ module _ (reach : Space → Option ℕ) (made : Place → Option ℕ) (changes :
     }
 
 -- the last of the places, in the pool as it is by then
-module _ (reach : Space → Option ℕ) (made : Place → Option ℕ) (changes later : Changes) (from to : List Node) (every all places : List Place) (part : Place)
+module _ (reach : Space → Extent) (made : Place → Option ℕ) (changes later : Changes) (from to : List Node) (every all places : List Place) (part : Place)
     (going : IsMaking reach made changes from to every all) (popped : all ≡ places ++ part ∷ []) (same : later ≡ changes) where
   making : IsMaking reach made changes from to every (places ++ part ∷ [])
   making = subst (IsMaking reach made changes from to every) popped going
@@ -331,10 +385,13 @@ module _ (reach : Space → Option ℕ) (made : Place → Option ℕ) (changes l
   pub live_now : part.id < length to
   live_now = omega (arith, live, length-Grows from to going.grows)
 
+  pool_before : IsPool from
+  pool_before = IsPool-front from going.grows.added (subst IsPool going.grows.is going.pool)
+
   pub kids_now : (kid : Place) → IsKid reach to part kid → IsMade made later to to kid
   kids_now kid is =
       made_kept made changes later from to going.grows same kid
-      (last_kids reach made changes from to every places part making kid (kid_kept made changes later from to going.grows same reach part kid live is))
+      (last_kids reach made changes from to every places part making kid (kid_kept made changes later from to going.grows same reach part kid pool_before live is))
 
   pub misfit_now : ¬ (IndicesBelow (2 ^ 32) (answer later to part)) → HasMisfit changes from every
   misfit_now large = record {

@@ -7,10 +7,11 @@ use Rattle.rz_rules.specs.declared.kinds.Space.{Space}
 use Rattle.rz_rules.specs.declared.kinds.Space.TheVariants.{Points, Terms}
 use Rattle.rz_rules.specs.declared.nodes.Node.{Node}
 use Rattle.rz_rules.specs.Tree.{Tree, tree_of}
-use Rattle.rz_rules.specs.Substitution.{Depth, total, Renumbered, Replaced, weakened, same_space, putting, IndicesBelow}
+use Rattle.rz_rules.specs.Substitution.{Depth, total, Replaced, weakened, same_space, putting, IndicesBelow}
 use Rattle.rz_rules.proofs.SubstitutionVariables.{put_change, put_below, putting_here, putting_apart}
 use Rattle.rz_subst.specs.declared.walk.Change.TheVariants as answers
 use Rattle.rz_subst.specs.Walk.{IsChange, FitsChange}
+use Rattle.rz_subst.specs.Within.{put_above}
 
 pub same_spaces : (s x : Space) → sameb the_type s x ≡ same_space s x
 same_spaces Points Points = refl
@@ -23,9 +24,6 @@ one_space Points Points e = refl
 one_space Points Terms e = absurd (true≢false (sym e))
 one_space Terms Points e = absurd (true≢false (sym e))
 one_space Terms Terms e = refl
-
-put_above : (place : ℕ) (value : Tree) (number : ℕ) → place < number → put_change place value number ≡ Renumbered (number - 1)
-put_above place value number h = grind (arith, nat_tests)
 
 put_at : (place : ℕ) (value : Tree) (number : ℕ) → place ≡ number → put_change place value number ≡ Replaced value
 put_at place value number h = grind (arith, nat_tests)

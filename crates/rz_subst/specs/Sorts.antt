@@ -12,9 +12,11 @@ use Rattle.rz_rules.specs.declared.nodes.Node.{Node}
 use Rattle.rz_rules.specs.Form.{form}
 use Rattle.rz_rules.specs.Tree.{Tree, Trees, At, sort_of, tree_of}
 use Rattle.rz_rules.specs.Substitution.{Depth, none, total, Change, Renumbered, Replaced, Changes, changed, changed_variable, changed_node, changed_kids, raising, weakened, putting}
+use Rattle.rz_pool.specs.declared.counts.Counts.{Counts}
+use Rattle.rz_pool.specs.Counts.{depth_of}
 use Rattle.rz_pool.specs.Pool.{Grows}
 use Rattle.rz_pool.proofs.Nodes.{length-Grows, KeepsTrees-Grows}
-use Rattle.rz_subst.specs.Walk.{sort_in, HasSort, KeepsSorts, IsValue}
+use Rattle.rz_subst.specs.Walk.{sort_in, HasSort, KeepsSorts, IsValue, putting_reach}
 
 -- a variable has the sort of its space, and no kids
 pub variable_form : (kind : Kind) (space : Space) → (form kind).role ≡ Variable space → ((form kind).sort ≡ sort_in space) × ((form kind).kids ≡ [])
@@ -57,8 +59,9 @@ KeepsSorts-putting space at value h other depth number = by space other h
     by Terms Points h = tt
     by Terms Terms h = choice (nat_lt number (at Terms + depth Terms)) (number == at Terms + depth Terms) (sort_in Terms) (weakened (total at depth) value) number (number - 1) (raised (sort_in Terms) h)
 
-pub kept-putting : (space : Space) (at : Depth) (value : ℕ) (old new : List Node) → IsValue space value old → Grows old new
-    → IsValue space value new × (putting space at (tree_of new value) ≡ putting space at (tree_of old value))
+pub kept-putting : (space : Space) (at : Counts) (value : ℕ) (old new : List Node) → IsValue space value old → Grows old new
+    → IsValue space value new × (putting space (depth_of at) (tree_of new value) ≡ putting space (depth_of at) (tree_of old value))
+    × (putting_reach space at (tree_of new value) ≡ putting_reach space at (tree_of old value))
 kept-putting space at value old new (live, sort) grows =
     let same : tree_of new value ≡ tree_of old value = KeepsTrees-Grows old new grows value live in
-    ((omega (arith, length-Grows old new grows), ap sort_of same ∙ sort), ap (putting space at) same)
+    ((omega (arith, length-Grows old new grows), ap sort_of same ∙ sort), ap (putting space (depth_of at)) same, ap (putting_reach space at) same)

@@ -1,6 +1,6 @@
 -- How a shared tree is walked: the places in it are listed, each before its kids, and changed from
 -- the last to the first.
-use Rattle.std.specs.Prelude.{◌≡◌, ℕ, ◌+◌, ◌<◌, ◌≤◌, ◌^◌, ◌==◌, if◌then◌else◌, Bool, true, List, [], ◌∷◌, Option, Some, None, IfSome, length, All, Contains, slice_get, unwrap_or, ◌⊎◌}
+use Rattle.std.specs.Prelude.{◌≡◌, ℕ, ◌+◌, ◌<◌, ◌≤◌, ◌^◌, ◌==◌, nat_lt, ◌||◌, ◌&&◌, not, if◌then◌else◌, Bool, true, false, List, [], ◌∷◌, Option, Some, None, IfSome, length, All, Contains, slice_get, map, unwrap_or, ◌⊎◌}
 use Rattle.rz_rules.specs.declared.kinds.Sort.{Sort}
 use Rattle.rz_rules.specs.declared.kinds.Sort.TheVariants.{Point, Term}
 use Rattle.rz_rules.specs.declared.kinds.Space.{Space}
@@ -15,6 +15,8 @@ use Rattle.rz_rules.specs.Substitution.{Depth, Changes, first_slot, other_slots,
 use Rattle.rz_rules.specs.Substitution as meanings
 use Rattle.rz_pool.specs.declared.counts.Counts.{Counts}
 use Rattle.rz_pool.specs.Counts.{depth_of}
+use Rattle.rz_pool.specs.Free.{free_bound, free_least}
+use Rattle.rz_subst.specs.declared.walk.Extent.{Extent}
 use Rattle.rz_subst.specs.declared.walk.Reach.{Reach}
 use Rattle.rz_subst.specs.declared.walk.Place.{Place}
 use Rattle.rz_subst.specs.declared.walk.Change.{Change}
@@ -25,8 +27,8 @@ abbrev pub sort_in : Space → Sort
 sort_in Points = Point
 sort_in Terms = Term
 
--- from where on the variables of each space may change
-abbrev pub reach_of : Reach → Space → Option ℕ
+-- how far out the variables of a space lie that may change
+abbrev pub reach_of : Reach → Space → Extent
 reach_of reach Points = reach.points
 reach_of reach Terms = reach.terms
 
@@ -52,34 +54,87 @@ walked (Variable space) places = []
 walked Declared places = []
 walked Former places = places
 
--- the kids of a node at a place, where the walk goes on
+-- the kids of a node at a place, if they are walked
 abbrev pub places_below : Place → Node → List Place
 places_below place node =
     walked (form node.kind).role (kid_places place (form node.kind).kids node.kids)
 
 -- the tree at a place has no variable of a space that may change
-abbrev pub StaysIn : (Space → Option ℕ) → List Node → Place → Space → Type 0
+abbrev pub StaysIn : (Space → Extent) → List Node → Place → Space → Type 0
 StaysIn reach nodes place space =
-    IfSome (reach space)
+    IfSome (reach space).start
     (λ start. NoneFrom space (start + depth_of place.depth space) (tree_of nodes place.id))
 
 -- nothing changes in the tree at a place
-abbrev pub IsBeyond : (Space → Option ℕ) → List Node → Place → Type 0
+abbrev pub IsBeyond : (Space → Extent) → List Node → Place → Type 0
 IsBeyond reach nodes place = (space : Space) → StaysIn reach nodes place space
 
 -- variables that aren't reached stay as they are
-abbrev pub IsWithin : (Space → Option ℕ) → Changes → Type 0
+abbrev pub IsWithin : (Space → Extent) → Changes → Type 0
 IsWithin reach changes =
     (space : Space) (depth : Depth) (number : ℕ)
-    → IfSome (reach space) (λ start. number < start + depth space)
+    → IfSome (reach space).start (λ start. number < start + depth space)
     → changes space depth number ≡ meanings.Renumbered number
 
+-- variables further out than the first that may change become the same at every depth
+abbrev pub IsSteady : (Space → Extent) → Changes → Type 0
+IsSteady reach changes =
+    (space : Space) (depth other : Depth) (number : ℕ)
+    → IfSome (reach space).start
+    (λ start. (start + depth space < number) × (start + other space < number))
+    → changes space depth number ≡ changes space other number
+
+-- what becomes of a variable depends on its own space's depth, and on those with which values move
+abbrev pub MovesOnlyWith : (Space → Extent) → Changes → Type 0
+MovesOnlyWith reach changes =
+    (space : Space) (depth other : Depth) (number : ℕ) → depth space ≡ other space
+    → ((moved : Space) → (depth moved ≡ other moved) ⊎ ((reach moved).moves ≡ false))
+    → changes space depth number ≡ changes space other number
+
+-- what becomes of variables keeps to a reach
+pub record KeepsTo (reach : Space → Extent) (changes : Changes) : Type 0 where
+  pub within : IsWithin reach changes
+  pub steady : IsSteady reach changes
+  pub moves : MovesOnlyWith reach changes
+
+-- whether a bound and a least index tell that the free variables are past the first to change
+abbrev pub lies_past : Option ℕ → (depth bound least : ℕ) → Bool
+lies_past None depth bound least = true
+lies_past (Some start) depth bound least = bound == 0 || nat_lt (start + depth) least
+
+-- whether the pool tells so of the free variables of a space in the tree at a place
+abbrev pub is_past : (Space → Extent) → List Node → Place → Space → Bool
+is_past reach nodes place space =
+    let tree = tree_of nodes place.id in
+    lies_past (reach space).start (depth_of place.depth space) (free_bound space tree)
+    (free_least space tree)
+
+-- a space's depth, which is of no account where its variables lie past the first to change, and
+-- either those of the other space do so too, or no value moves with this one
+abbrev pub count_where : (moves past others : Bool) → ℕ → ℕ
+count_where moves past others count = if past && (others || not moves) then 0 else count
+
+abbrev pub place_where : (Space → Extent) → Place → (points terms : Bool) → Place
+place_where reach place points terms =
+    let in_points = count_where (reach Points).moves points terms place.depth.points in
+    let in_terms = count_where (reach Terms).moves terms points place.depth.terms in
+    record { id = place.id; depth = record { points = in_points; terms = in_terms } }
+
+-- the place whose answer serves for a place
+abbrev pub shared_place : (Space → Extent) → List Node → Place → Place
+shared_place reach nodes place =
+    place_where reach place (is_past reach nodes place Points) (is_past reach nodes place Terms)
+
+-- the places to which the walk goes on from a node at a place
+abbrev pub next_below : (Space → Extent) → List Node → Place → Node → List Place
+next_below reach nodes place node = map (shared_place reach nodes) (places_below place node)
+
 -- a place to which the walk goes on from a place where something may change
-pub record IsKid (reach : Space → Option ℕ) (nodes : List Node) (place kid : Place) : Type 0 where
+pub record IsKid (reach : Space → Extent) (nodes : List Node) (place kid : Place) : Type 0 where
   pub node : Node
   pub at : slice_get nodes place.id ≡ Some node
   pub goes : ¬ (IsBeyond reach nodes place)
-  pub is : Contains (places_below place node) kid
+  pub is : Contains (next_below reach nodes place node) kid
 
 -- what becomes of the tree at a place
 abbrev pub answer : Changes → List Node → Place → Tree
@@ -91,27 +146,28 @@ pub record IsFit (changes : Changes) (nodes : List Node) (place : Place) : Type 
   pub indices : IndicesBelow (2 ^ 32) (answer changes nodes place)
 
 -- each kid of a listed place stands after it, or is settled elsewhere
-abbrev pub AreSettled : (Space → Option ℕ) → List Node → List Place → (Place → Type 0) → Type 0
+abbrev pub AreSettled : (Space → Extent) → List Node → List Place → (Place → Type 0) → Type 0
 AreSettled reach nodes [] Settled = Unit {0}
 AreSettled reach nodes (place ∷ places) Settled =
     ((kid : Place) → IsKid reach nodes place kid → Contains places kid ⊎ Settled kid)
     × AreSettled reach nodes places Settled
 
--- the places to which the walk goes on, whatever becomes of the variables there
-pub record AreNext (reach : Space → Option ℕ) (nodes : List Node) (place : Place)
+-- the places to which the walk goes on, whatever becomes of what is reached
+pub record AreNext (reach : Space → Extent) (nodes : List Node) (place : Place)
     (below : List Place) : Type 0 where
   pub all : (kid : Place) → IsKid reach nodes place kid → Contains below kid
   pub live : All (λ (kid : Place). kid.id < length nodes) below
-  pub fits : (changes : Changes) → IsFit changes nodes place → All (IsFit changes nodes) below
+  pub fits : (changes : Changes) → KeepsTo reach changes → IsFit changes nodes place
+      → All (IsFit changes nodes) below
 
--- the place and all places below it to which the walk goes, whatever becomes of the variables there
-pub record ListsPlaces (reach : Space → Option ℕ) (nodes : List Node) (whole : Place)
+-- the place and all places below it to which the walk goes, whatever becomes of what is reached
+pub record ListsPlaces (reach : Space → Extent) (nodes : List Node) (whole : Place)
     (places : List Place) : Type 0 where
   pub top : Contains places whole
   pub settled : AreSettled reach nodes places (λ _. ⊥)
   pub live : All (λ (place : Place). place.id < length nodes) places
-  pub fits : (changes : Changes) → IndicesBelow (2 ^ 32) (answer changes nodes whole)
-      → All (IsFit changes nodes) places
+  pub fits : (changes : Changes) → KeepsTo reach changes
+      → IndicesBelow (2 ^ 32) (answer changes nodes whole) → All (IsFit changes nodes) places
 
 -- a set that these places have joined
 pub record Joined (old new : Place → Bool) (places : List Place) : Type 0 where
@@ -171,13 +227,30 @@ IsNewNumber number change =
 abbrev pub raised_from : ℕ → ℕ → Option ℕ
 raised_from from by = if by == 0 then None else Some from
 
-abbrev pub raising_reach : Counts → Counts → Reach
-raising_reach from by =
-    record { points = raised_from from.points by.points; terms = raised_from from.terms by.terms }
+-- then no value moves
+abbrev pub raising_extent : ℕ → ℕ → Extent
+raising_extent from by = record { start = raised_from from by; moves = false }
 
-abbrev pub putting_reach : Space → Counts → Reach
-putting_reach Points at = record { points = Some at.points; terms = None }
-putting_reach Terms at = record { points = None; terms = Some at.terms }
+abbrev pub raising_reach : Counts → Counts → Reach
+raising_reach from by = record {
+  points = raising_extent from.points by.points;
+  terms = raising_extent from.terms by.terms;
+}
+
+-- a value moves with the spaces of which it has free variables
+abbrev pub putting_extent : Option ℕ → Space → Tree → Extent
+putting_extent start space value =
+    record { start = start; moves = nat_lt 0 (free_bound space value) }
+
+abbrev pub putting_reach : Space → Counts → Tree → Reach
+putting_reach Points at value = record {
+  points = putting_extent (Some at.points) Points value;
+  terms = putting_extent None Terms value;
+}
+putting_reach Terms at value = record {
+  points = putting_extent None Points value;
+  terms = putting_extent (Some at.terms) Terms value;
+}
 
 abbrev pub HasSort : Sort → meanings.Change → Type 0
 HasSort sort (meanings.Renumbered number) = Unit {0}

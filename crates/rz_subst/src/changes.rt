@@ -5,11 +5,11 @@ ghost use Rattle.rz_rules.specs.Tree.{sort_of, tree_of};
 ghost use Rattle.rz_rules.specs.Substitution.{IndicesBelow, none, only, total, raising, weakened, putting, shift, put, same_space};
 ghost use Rattle.rz_pool.specs.Counts.{depth_of};
 ghost use Rattle.rz_pool.specs.Pool.{Grows, IsPool};
-ghost use Rattle.rz_subst.specs.Walk.{sort_in, raised_from, raising_reach, putting_reach, IsAnswerOf, IsNewNumber, IsValue};
+ghost use Rattle.rz_subst.specs.Walk.{sort_in, raising_extent, putting_extent, raising_reach, putting_reach, IsAnswerOf, IsNewNumber, IsValue};
 ghost use Rattle.rz_subst.specs.Sorts.{KeepsSorts-raising, KeepsSorts-putting, kept-putting};
-ghost use Rattle.rz_subst.specs.Within.{IsWithin-raising, IsWithin-putting};
+ghost use Rattle.rz_subst.specs.Within.{IsWithin-raising, IsWithin-putting, IsSteady-raising, IsSteady-putting, MovesOnlyWith-raising, MovesOnlyWith-putting};
 
-use crate::walk::{Change, Changing, Reach, rebuild};
+use crate::walk::{Change, Changing, Extent, Reach, rebuild};
 use rz_pool::{Counts, Pool};
 use rz_rules::{OutOfMemory, Space};
 use std::alloc::Global;
@@ -21,8 +21,8 @@ pub struct Raising {
     pub by: Counts,
 }
 
-/// A value takes the place of a variable that is bound outside of the tree; those further out lose
-/// one.
+/// A value takes the place of a variable that is bound outside of the tree, and those further out
+/// lose one.
 #[derive(Drop)]
 pub struct Putting {
     pub space: Space,
@@ -32,11 +32,26 @@ pub struct Putting {
     pub value: u64,
 }
 
-/// From where on the variables of a space change, that rise by so many.
-fn start(from: u64, by: u64) -> Option<u64>
-    ensures { result ≡ raised_from from by }
+/// How far out the variables of a space lie that rise by so many from an index on.
+fn raising_extent(from: u64, by: u64) -> Extent
+    ensures { result ≡ raising_extent from by }
 {
-    if by == 0 { None } else { Some(from) }
+    Extent {
+        start: if by == 0 { None } else { Some(from) },
+        moves: false,
+    }
+}
+
+/// How far out the variables of a space lie that may change where a value is put.
+fn putting_extent(pool: &Pool, space: Space, start: Option<u64>, value: u64) -> Extent
+    requires { value < length pool.now.nodes }
+    ensures extent { result ≡ putting_extent start space (tree_of pool.now.nodes value) }
+    ensures pool { IsPool pool.now.nodes }
+{
+    Extent {
+        start,
+        moves: pool.free_bound(space, value) > 0,
+    }
 }
 
 /// The number of a variable that rises, where it isn't too large.
@@ -54,20 +69,24 @@ fn new_number(number: u64, by: u64) -> Option<Change>
 impl Changing for Raising {
     ghost changes = { λ it nodes. raising (depth_of it.from) (depth_of it.by) };
 
-    ghost reach = { λ it. raising_reach it.from it.by };
+    ghost reach = { λ it nodes. raising_reach it.from it.by };
 
     ghost is_there = { λ it nodes. Unit {0} };
 
-    ghost kept = { λ it old new there grows. (tt, refl) };
+    ghost kept = { λ it old new there grows. (tt, refl, refl) };
 
     ghost sorts = { λ it nodes there. KeepsSorts-raising (depth_of it.from) (depth_of it.by) };
 
     ghost stays = { λ it nodes. IsWithin-raising it.from it.by };
 
-    fn reach(&self) -> Reach {
+    ghost steady = { λ it nodes. IsSteady-raising it.from it.by };
+
+    ghost moves = { λ it nodes. MovesOnlyWith-raising it.from it.by };
+
+    fn reach(&self, _pool: &Pool) -> Reach {
         Reach {
-            points: start(self.from.points, self.by.points),
-            terms: start(self.from.terms, self.by.terms),
+            points: raising_extent(self.from.points, self.by.points),
+            terms: raising_extent(self.from.terms, self.by.terms),
         }
     }
 
@@ -92,28 +111,30 @@ impl Changing for Raising {
 impl Changing for Putting {
     ghost changes = { λ it nodes. putting it.space (depth_of it.at) (tree_of nodes it.value) };
 
-    ghost reach = { λ it. putting_reach it.space it.at };
+    ghost reach = { λ it nodes. putting_reach it.space it.at (tree_of nodes it.value) };
 
     ghost is_there = { λ it nodes. IsValue it.space it.value nodes };
 
     ghost kept = { λ it old new there grows.
-        kept-putting it.space (depth_of it.at) it.value old new there grows };
+        kept-putting it.space it.at it.value old new there grows };
 
     ghost sorts = { λ it nodes there.
         KeepsSorts-putting it.space (depth_of it.at) (tree_of nodes it.value) there.1 };
 
     ghost stays = { λ it nodes. IsWithin-putting it.space it.at (tree_of nodes it.value) };
 
-    fn reach(&self) -> Reach {
-        match self.space {
-            Space::Points => Reach {
-                points: Some(self.at.points),
-                terms: None,
-            },
-            Space::Terms => Reach {
-                points: None,
-                terms: Some(self.at.terms),
-            },
+    ghost steady = { λ it nodes. IsSteady-putting it.space it.at (tree_of nodes it.value) };
+
+    ghost moves = { λ it nodes. MovesOnlyWith-putting it.space it.at (tree_of nodes it.value) };
+
+    fn reach(&self, pool: &Pool) -> Reach {
+        let (points, terms) = match self.space {
+            Space::Points => (Some(self.at.points), None),
+            Space::Terms => (None, Some(self.at.terms)),
+        };
+        Reach {
+            points: putting_extent(pool, Space::Points, points, self.value),
+            terms: putting_extent(pool, Space::Terms, terms, self.value),
         }
     }
 
@@ -154,8 +175,14 @@ fn further_in(at: Counts, depth: Counts) -> Result<Counts, OutOfMemory>
     })
 }
 
-/// The id of a tree as it is read so much further in; `None` where an index would be too large.
-fn weaken(alloc: Global, pool: &mut Pool, id: u64, by: Counts) -> Result<Option<u64>, OutOfMemory>
+/// The id of a tree as it is read so much further in: all its variables rise; `None` exactly where some index would reach
+/// 2^32.
+pub fn weaken(
+    alloc: Global,
+    pool: &mut Pool,
+    id: u64,
+    by: Counts,
+) -> Result<Option<u64>, OutOfMemory>
     requires live { id < length pool.old.nodes }
     ensures answer { IfOk result (IsAnswerOf pool.new.nodes
         (weakened (depth_of by) (tree_of pool.old.nodes id))) }

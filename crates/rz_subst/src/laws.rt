@@ -1,6 +1,5 @@
 //! The laws of shifts and of substitution, for all trees and both spaces. A function of this module
-//! does nothing: its
-//! clauses are the law.
+//! does nothing: its clauses are the law.
 
 ghost use Rattle.std.specs.Prelude.{◌≡◌, ◌+◌, ◌≤◌, ℕ, false};
 ghost use Rattle.rz_rules.specs.declared.kinds.Space.{Space};
@@ -22,8 +21,7 @@ pub fn shifts_commute()
 {}
 
 /// A shift and a substitution commute, in one space and in two: where the shift begins outside of
-/// the place of the value,
-/// and where it begins inside.
+/// the place of the value, and where it begins inside.
 pub fn shift_and_put_commute()
     ensures above { (o s : Space) (at : Depth) (more by : ℕ) (value t : Tree)
         → shift o (at o + more) by (put s at value t)

@@ -1,12 +1,18 @@
 //! Substitution in shared trees.
 //!
-//! A call visits each node below an id once for each depth at which it stands, and a value once for
-//! each depth at which it is put, so the work doesn't grow with the sizes of the trees. It visits
-//! no
-//! node below one that has no variable which may change, whose id is its own answer; so it is with
-//! the kids of constants and postulates, which are closed. A refusal may leave some new nodes in
-//! the
-//! pool.
+//! A call visits each node below an id at most once for each depth at which it stands, and a value
+//! once for each depth at which it is put, so the work doesn't grow with the sizes of the trees. It
+//! visits less where the pool tells what is free in a tree:
+//!
+//! - A node that has no variable which may change is its own answer, and nothing below it is
+//!   visited. So it is with the kids of constants and postulates, which are closed.
+//! - Depths at which a node has the same answer are visited as one. They are those at which all its
+//!   free variables are further out than the one that is put, or than the first that rises; the pool
+//!   tells that by the least of their indices, as far as it has it. Nor is the depth of account in a
+//!   space in which nothing changes, unless the value that is put has variables of it. So in a tower
+//!   of trees `pi x x` with the variable that is put at its foot, each node is visited twice.
+//!
+//! A refusal may leave some new nodes in the pool.
 //!
 //! An id may stand for a tree of any sort. In a context no entry binds anything: each entry counts
 //! as if it stood where the context does, though the entries after the first are read further in.
@@ -24,7 +30,7 @@ mod changes;
 pub mod laws;
 mod walk;
 
-pub use changes::{put, shift};
+pub use changes::{put, shift, weaken};
 use rz_pool::{Counts, Pool};
 use rz_rules::{OutOfMemory, Space};
 use std::alloc::Global;

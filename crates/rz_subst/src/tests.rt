@@ -504,6 +504,22 @@ fn laws() {
     weakening_adds_up();
 }
 
+/// A tree of a kind, of two kids.
+fn pair_of(
+    rt: &impl Abort,
+    alloc: Global,
+    pool: &mut Pool,
+    kind: Kind,
+    first: u64,
+    second: u64,
+) -> Result<u64, Fail> {
+    let mut stack = Vec::new(alloc);
+    stack.push(second)?;
+    stack.push(first)?;
+    make(rt, alloc, pool, &mut stack, kind, 0)?;
+    Ok(stack.pop().ok_or("no node")?)
+}
+
 /// A tree of this tree and itself, and so on: its nodes are more than 2 to the number of levels.
 fn tower(
     rt: &impl Abort,
@@ -515,11 +531,19 @@ fn tower(
 ) -> Result<u64, Fail> {
     let mut id = read(rt, alloc, pool, foot)?;
     for _ in 0..levels {
-        let mut stack = Vec::new(alloc);
-        stack.push(id)?;
-        stack.push(id)?;
-        make(rt, alloc, pool, &mut stack, kind, 0)?;
-        id = stack.pop().ok_or("no node")?;
+        id = pair_of(rt, alloc, pool, kind, id, id)?;
+    }
+    Ok(id)
+}
+
+/// A tower of function types over `v 3199`, but for the one place of the foot that is under all
+/// 3,200 binders, where `U` stands.
+fn tower_but_for_a_foot(rt: &impl Abort, alloc: Global, pool: &mut Pool) -> Result<u64, Fail> {
+    let mut tower = read(rt, alloc, pool, "v 3199")?;
+    let mut id = read(rt, alloc, pool, "U")?;
+    for _ in 0..3200 {
+        id = pair_of(rt, alloc, pool, Kind::Pi, tower, id)?;
+        tower = pair_of(rt, alloc, pool, Kind::Pi, tower, tower)?;
     }
     Ok(id)
 }
@@ -539,6 +563,19 @@ fn large_trees(rt: HostRuntime) -> Result<(), Fail> {
     let body = tower(&rt, alloc, &mut pool, Kind::Pi, "v 200", 100)?;
     let new = shift(&rt, alloc, &mut pool, Space::Terms, body, 0, 3)?;
     let want = tower(&rt, alloc, &mut pool, Kind::Pi, "v 203", 100)?;
+    assert_eq!(rt; new, want);
+
+    let body = tower(&rt, alloc, &mut pool, Kind::Pi, "v 3200", 3200)?;
+    let want = tower_but_for_a_foot(&rt, alloc, &mut pool)?;
+    let new = put(&rt, alloc, &mut pool, Space::Terms, body, value)?;
+    assert_eq!(rt; new, want);
+
+    let value = read(&rt, alloc, &mut pool, "p0")?;
+    let foot = "rec U tle pv 0 p1 ttop U U";
+    let body = tower(&rt, alloc, &mut pool, Kind::Pi, foot, 3200)?;
+    let foot = "rec U tle p0 p1 ttop U U";
+    let want = tower(&rt, alloc, &mut pool, Kind::Pi, foot, 3200)?;
+    let new = put(&rt, alloc, &mut pool, Space::Points, body, value)?;
     assert_eq!(rt; new, want);
     Ok(())
 }

@@ -10,7 +10,7 @@ ghost use Rattle.rz_rules.specs.Substitution.{Changes, IndicesBelow, changed, no
 ghost use Rattle.rz_pool.specs.Counts.{depth_of};
 ghost use Rattle.rz_pool.specs.Pool.{Grows, IsPool};
 ghost use Rattle.rz_subst.specs.declared.walk.Reach.{Reach};
-ghost use Rattle.rz_subst.specs.Walk.{kid_place, kid_places, top_place, places_below, reach_of, StaysIn, IsBeyond, IsWithin, answer, IsChange, IsAnswer, IsAnswerOf, FitsChange, KeepsSorts, AreSettled, AreNext, ListsPlaces, HasMisfit, Joined, IsKid, IsMade, new_id};
+ghost use Rattle.rz_subst.specs.Walk.{kid_place, kid_places, top_place, next_below, reach_of, is_past, count_where, shared_place, StaysIn, IsBeyond, IsWithin, IsSteady, MovesOnlyWith, answer, IsChange, IsAnswer, IsAnswerOf, FitsChange, KeepsSorts, AreSettled, AreNext, ListsPlaces, HasMisfit, Joined, IsKid, IsMade, new_id};
 
 use rz_pool::{Counts, HashKey, Pool};
 use rz_rules::{Kids, Node, OutOfMemory, Role, Slot, Space};
@@ -24,12 +24,21 @@ pub struct Place {
     pub depth: Counts,
 }
 
-/// For each space from how many binders outside of a tree on its variables may change, where any
-/// may.
+/// How far out the variables of a space lie that may change.
+#[derive(Clone, Copy)]
+pub struct Extent {
+    /// How many binders outside of a tree the first of them is bound, where there are any.
+    pub start: Option<u64>,
+    /// Whether what takes the place of a variable has variables of this space, which rise with the
+    /// depth.
+    pub moves: bool,
+}
+
+/// How far out the variables lie that may change.
 #[derive(Clone, Copy)]
 pub struct Reach {
-    pub points: Option<u64>,
-    pub terms: Option<u64>,
+    pub points: Extent,
+    pub terms: Extent,
 }
 
 /// What becomes of a variable.
@@ -41,8 +50,8 @@ pub enum Change {
 }
 
 impl Reach {
-    /// From where on the variables of a space may change.
-    pub fn of(self, space: Space) -> Option<u64>
+    /// How far out those of a space lie.
+    pub fn of(self, space: Space) -> Extent
         ensures { result ≡ reach_of self space }
     {
         match space {
@@ -83,29 +92,86 @@ impl Place {
         })
     }
 
-    /// The kids of this node here.
-    fn kids(self, alloc: Global, slots: &[Slot], kids: &[u64]) -> Result<Vec<Place>, OutOfMemory>
-        requires { length kids.now ≡ length slots.now }
-        ensures { IfOk result (λ places. places.items ≡ kid_places self slots.now kids.now) }
+    /// The places whose answers serve for the kids of this node here.
+    fn kids(
+        self,
+        alloc: Global,
+        pool: &Pool,
+        reach: Reach,
+        slots: &[Slot],
+        kids: &[u64],
+    ) -> Result<Vec<Place>, OutOfMemory>
+        requires slots { length kids.now ≡ length slots.now }
+        requires live { All (λ kid. kid < length pool.now.nodes) kids.now }
+        ensures { IfOk result (λ places. places.items
+            ≡ map (shared_place (reach_of reach) pool.now.nodes)
+            (kid_places self slots.now kids.now)) }
     {
         let mut places = Vec::new(alloc);
         for i in 0..kids.len() {
-            places.push(self.kid(slots[i], kids[i])?)?;
+            let kid = self.kid(slots[i], kids[i])?;
+            places.push(shared(pool, reach, kid))?;
         }
         Ok(places)
     }
 
-    /// The kids of this node here to which the walk goes on.
-    fn below(self, alloc: Global, node: &Node) -> Result<Vec<Place>, OutOfMemory>
-        requires { length node.now.kids ≡ length (form node.now.kind).kids }
-        ensures below { IfOk result (λ places. places.items ≡ places_below self node.now) }
+    /// The places to which the walk goes on from this node here.
+    fn below(
+        self,
+        alloc: Global,
+        pool: &Pool,
+        reach: Reach,
+        node: &Node,
+    ) -> Result<Vec<Place>, OutOfMemory>
+        requires slots { length node.now.kids ≡ length (form node.now.kind).kids }
+        requires live { All (λ kid. kid < length pool.now.nodes) node.now.kids }
+        ensures below { IfOk result (λ places. places.items
+            ≡ next_below (reach_of reach) pool.now.nodes self node.now) }
         ensures few { IfOk result (λ places. length places.items ≤ 7) }
     {
         let form = node.kind.form();
         match form.role {
-            Role::Former => self.kids(alloc, form.kids, node.kids.as_slice()),
+            Role::Former => self.kids(alloc, pool, reach, form.kids, node.kids.as_slice()),
             Role::Variable(_) | Role::Declared => Ok(Vec::new(alloc)),
         }
+    }
+}
+
+/// Whether the free variables of a space in the tree at a place are known to be further out than
+/// the first that may change.
+fn is_past(pool: &Pool, reach: Reach, place: Place, space: Space) -> bool
+    requires { place.id < length pool.now.nodes }
+    ensures { result ≡ is_past (reach_of reach) pool.now.nodes place space }
+{
+    let bound = pool.free_bound(space, place.id);
+    let least = pool.free_least(space, place.id);
+    match reach.of(space).start {
+        Some(start) => bound == 0 || least.saturating_sub(place.depth.of(space)) > start,
+        None => true,
+    }
+}
+
+/// A count of binders, which is of no account where the space's variables lie past the first to
+/// change, and either those of the other space do so too, or no value moves with this one.
+fn count_where(moves: bool, past: bool, others: bool, count: u64) -> u64
+    ensures { result ≡ count_where moves past others count }
+{
+    if past && (others || !moves) { 0 } else { count }
+}
+
+/// The place whose answer serves for a place.
+fn shared(pool: &Pool, reach: Reach, place: Place) -> Place
+    requires { place.id < length pool.now.nodes }
+    ensures { result ≡ shared_place (reach_of reach) pool.now.nodes place }
+{
+    let points = is_past(pool, reach, place, Space::Points);
+    let terms = is_past(pool, reach, place, Space::Terms);
+    Place {
+        id: place.id,
+        depth: Counts {
+            points: count_where(reach.points.moves, points, terms, place.depth.points),
+            terms: count_where(reach.terms.moves, terms, points, place.depth.terms),
+        },
     }
 }
 
@@ -127,7 +193,7 @@ fn stays_in(pool: &Pool, reach: Reach, place: Place, space: Space) -> bool
     ensures pool { IsPool pool.now.nodes }
 {
     let bound = pool.free_bound(space, place.id);
-    match reach.of(space) {
+    match reach.of(space).start {
         Some(start) => bound.saturating_sub(place.depth.of(space)) <= start,
         None => true,
     }
@@ -144,7 +210,7 @@ fn is_beyond(pool: &Pool, reach: Reach, place: Place) -> bool
     points && terms
 }
 
-/// The kids of the node at a place to which the walk goes on: none where nothing changes.
+/// The places to which the walk goes on from a place: none where nothing changes.
 fn next_places(
     alloc: Global,
     pool: &Pool,
@@ -157,7 +223,7 @@ fn next_places(
     if is_beyond(pool, reach, place) {
         return Ok(Vec::new(alloc));
     }
-    place.below(alloc, pool.node(place.id))
+    place.below(alloc, pool, reach, pool.node(place.id))
 }
 
 /// The whole tree of an id and all places below it to which the walk goes, the greatest ids first.
@@ -194,14 +260,15 @@ fn made_kids(places: &[Place], made: &HashMap<Place, u64, HashKey>) -> Kids
 pub trait Changing {
     ghost changes: { Self → List Node → Changes };
 
-    ghost reach: { Self → Reach };
+    ghost reach: { Self → List Node → Reach };
 
     /// What it names is in the pool, and has its sort.
     ghost is_there: { Self → List Node → Type 0 };
 
-    /// From where on variables may change.
-    fn reach(&self) -> Reach
-        ensures { result ≡ reach self.now };
+    /// How far out the variables lie that may change.
+    fn reach(&self, pool: &Pool) -> Reach
+        requires { is_there self.now pool.now.nodes }
+        ensures { result ≡ reach self.now pool.now.nodes };
 
     /// What becomes of a variable of a space with this number, which stands at a depth; `None`
     /// where an index would be too large.
@@ -224,7 +291,8 @@ pub trait Changing {
     /// It stays the same in a pool that grows.
     ghost kept: { (self : Self) (old new : List Node) → is_there self old → Grows old new
         → is_there self new
-        × (changes self new ≡ changes self old) };
+        × (changes self new ≡ changes self old)
+        × (reach self new ≡ reach self old) };
 
     /// Only trees of its sort take the place of a variable.
     ghost sorts: { (self : Self) (nodes : List Node) → is_there self nodes
@@ -232,7 +300,15 @@ pub trait Changing {
 
     /// Variables that aren't reached stay as they are.
     ghost stays: { (self : Self) (nodes : List Node)
-        → IsWithin (reach_of (reach self)) (changes self nodes) };
+        → IsWithin (reach_of (reach self nodes)) (changes self nodes) };
+
+    /// Of variables further out than the first that is reached the same becomes at every depth.
+    ghost steady: { (self : Self) (nodes : List Node)
+        → IsSteady (reach_of (reach self nodes)) (changes self nodes) };
+
+    /// Values move only with the spaces of which that is told.
+    ghost moves: { (self : Self) (nodes : List Node)
+        → MovesOnlyWith (reach_of (reach self nodes)) (changes self nodes) };
 }
 
 /// The id of what becomes of the tree at a place, each kid of which has its new id; `None` where an
@@ -247,7 +323,8 @@ fn make_at<C: Changing>(
     requires there { C.is_there changing.now pool.old.nodes }
     requires live { place.id < length pool.old.nodes }
     requires pool { IsPool pool.old.nodes }
-    requires kids { (kid : _) → IsKid (reach_of (C.reach changing.now)) pool.old.nodes place kid
+    requires kids { (kid : _) → IsKid (reach_of (C.reach changing.now pool.old.nodes))
+        pool.old.nodes place kid
         → IsMade (get ⟦<Place as PartialEq>⟧.eq made.now)
         (C.changes changing.now pool.old.nodes) pool.old.nodes pool.old.nodes kid }
     ensures answer { IfOk result (IsAnswerOf pool.new.nodes
@@ -255,7 +332,8 @@ fn make_at<C: Changing>(
     ensures grows { Grows pool.old.nodes pool.new.nodes }
     ensures pool { IsPool pool.new.nodes }
 {
-    if is_beyond(pool, changing.reach(), place) {
+    let reach = changing.reach(pool);
+    if is_beyond(pool, reach, place) {
         return Ok(Some(place.id));
     }
     let node = pool.node(place.id);
@@ -273,7 +351,7 @@ fn make_at<C: Changing>(
         }
         Role::Declared => Ok(Some(place.id)),
         Role::Former => {
-            let below = place.below(alloc, node)?;
+            let below = place.below(alloc, pool, reach, node)?;
             let mut node = node.copy()?;
             node.kids = made_kids(&below, made);
             Ok(Some(pool.make(node)?))
@@ -289,8 +367,8 @@ fn make_all<C: Changing>(
     mut places: Vec<Place>,
 ) -> Result<Option<HashMap<Place, u64, HashKey>>, OutOfMemory>
     requires there { C.is_there changing.now pool.old.nodes }
-    requires settled { AreSettled (reach_of (C.reach changing.now)) pool.old.nodes places.items
-        (λ _. ⊥) }
+    requires settled { AreSettled (reach_of (C.reach changing.now pool.old.nodes))
+        pool.old.nodes places.items (λ _. ⊥) }
     requires live { All (λ place. place.id < length pool.old.nodes) places.items }
     requires pool { IsPool pool.old.nodes }
     ensures made { IfOk result (λ made. IfSome made (λ made.
@@ -328,10 +406,11 @@ pub fn rebuild<C: Changing>(
     ensures grows { Grows pool.old.nodes pool.new.nodes }
     ensures pool { IsPool pool.new.nodes }
 {
-    if is_beyond(pool, changing.reach(), Place::top(id)) {
+    let reach = changing.reach(pool);
+    if is_beyond(pool, reach, Place::top(id)) {
         return Ok(Some(id));
     }
-    let places = places(alloc, pool, changing.reach(), id)?;
+    let places = places(alloc, pool, reach, id)?;
     match make_all(alloc, pool, changing, places)? {
         Some(made) => Ok(Some(made[&Place::top(id)])),
         None => Ok(None),

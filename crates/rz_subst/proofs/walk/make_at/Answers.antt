@@ -1,4 +1,5 @@
-use Rattle.std.proofs.Common.{Some, Option, All, IsSome, map, subst, refl, sym, ap, ◌∙◌, true≢false}
+use Rattle.std.proofs.Common.{◌<◌, Some, Option, All, IsSome, length, map, subst, refl, sym, ap, ◌∙◌, true≢false, arith}
+use Rattle.std.proofs.lemmas.List.Elements.{All-weaker}
 use Rattle.std.specs.HashMap.{get}
 use Rattle.rz_rules.specs.declared.kinds.Role.{Role}
 use Rattle.rz_rules.specs.declared.nodes.Node.{Node}
@@ -8,7 +9,7 @@ use Rattle.rz_subst.specs.declared.walk.Change.{Change}
 use Rattle.rz_subst.specs.declared.walk.Place.{Place}
 use Rattle.rz_subst.specs.declared.walk.Reach.{Reach}
 use Rattle.rz_subst.specs.contracts.walk.PlacePartialEq.TheImpl.{eq-value}
-use Rattle.rz_subst.specs.Walk.{reach_of, IsBeyond, IsAnswer, new_id, places_below}
+use Rattle.rz_subst.specs.Walk.{reach_of, IsBeyond, IsAnswer, new_id, next_below, KeepsTo}
 use Rattle.rz_subst.proofs.Staying.{answer-beyond}
 use Rattle.rz_subst.proofs.Making.{IsNodeAt, IsNodeAt-copy, enough_slots, variable_fits, renumbered_form, renumbered_tree, replaced_answer, declared_tree, below_made, remade_form, remade_tree}
 use Rattle.rz_subst.proofs.walk.make_at.Goals as goal
@@ -21,9 +22,9 @@ returns-then-is_beyond-clause-answer g c =
     let nodes = c.args.pool.now.nodes in
     let place = c.args.place in
     let changing = c.args.changing.now in
-    let beyond : IsBeyond (reach_of (g.C.Changing.reach changing)) nodes place =
-    subst (λ (r : Reach). IsBeyond (reach_of r) nodes place) c.reach.ensures (c.if-is_beyond.ensures.beyond.0 refl) in
-    (c.requires.live, sym (answer-beyond (reach_of (g.C.Changing.reach changing)) (g.C.Changing.changes changing nodes) (g.met.C.Changing.stays changing nodes) nodes place beyond))
+    let beyond : IsBeyond (reach_of (g.C.Changing.reach changing nodes)) nodes place =
+    subst (λ (r : Reach). IsBeyond (reach_of r) nodes place) c.reach-reach.ensures (c.if-is_beyond.ensures.beyond.0 refl) in
+    (c.requires.live, sym (answer-beyond (reach_of (g.C.Changing.reach changing nodes)) (g.C.Changing.changes changing nodes) (g.met.C.Changing.stays changing nodes) nodes place beyond))
 
 pub make-requires : goal.make-requires
 make-requires g c =
@@ -37,8 +38,12 @@ make-requires g c =
     (c.in-Some-Renumbered.is ∙ ap Some c.in-Some-Renumbered.field-0-is) c.in_ok-variable-in-Variable.ensures.change in
     renumbered_form changes nodes c.args.place node known space (ap role_of c.in_ok-node-in-Variable.ensures ∙ (sym c.form.ensures.role ∙ c.in-Variable.is)) new c.in-Some-Renumbered.number is
 
-pub below-requires : goal.below-requires
-below-requires g c =
+pub below-requires-clause-live : goal.below-requires-clause-live
+below-requires-clause-live g c =
+    All-weaker (λ kid. kid < c.args.place.id) (λ kid. kid < length c.args.pool.now.nodes) (λ kid l. omega (arith, l, c.requires.live)) c.node-node.result.now.kids c.node-node.ensures.form.kids
+
+pub below-requires-clause-slots : goal.below-requires-clause-slots
+below-requires-clause-slots g c =
     enough_slots c.args.pool.now.nodes c.args.place c.node-node.result.now
     (record { at = c.node-node.ensures.node; tree = c.node-node.ensures.tree; form = c.node-node.ensures.form })
 
@@ -90,14 +95,14 @@ made_kids-node-requires-clause-made g c =
     let nodes = c.args.pool.now.nodes in
     let node = c.node-node.result.now in
     let changing = c.args.changing.now in
-    let reach = g.C.Changing.reach changing in
+    let reach = g.C.Changing.reach changing nodes in
     let changes = g.C.Changing.changes changing nodes in
     let made = get eq-value.it c.args.made.now in
     let known : IsNodeAt nodes c.args.place node = record { at = c.node-node.ensures.node; tree = c.node-node.ensures.tree; form = c.node-node.ensures.form } in
     let goes : IsBeyond (reach_of reach) nodes c.args.place → ⊥ = λ beyond.
-    true≢false (sym (c.is_beyond.ensures.beyond.1 (subst (λ (r : Reach). IsBeyond (reach_of r) nodes c.args.place) (sym c.reach.ensures) beyond)) ∙ c.if-is_beyond.false) in
+    true≢false (sym (c.is_beyond.ensures.beyond.1 (subst (λ (r : Reach). IsBeyond (reach_of r) nodes c.args.place) (sym c.reach-reach.ensures) beyond)) ∙ c.if-is_beyond.false) in
     let all = below_made changes nodes c.args.place node known (reach_of reach) goes made c.requires.kids in
-    let listed = sym (c.deref.ensures.value ∙ c.in_ok-below-in-Former.ensures.below) in
+    let listed = sym (c.deref.ensures.value ∙ (c.in_ok-below-in-Former.ensures.below ∙ ap (λ (r : Reach). next_below (reach_of r) nodes c.args.place node) c.reach-reach.ensures)) in
     subst (All (λ (kid : Place). IsSome (made kid))) listed (λ k d l. let done = all k d l in rw done.at refl)
 
 pub make-requires-in-Former : goal.make-requires-in-Former
@@ -105,14 +110,16 @@ make-requires-in-Former g c =
     let nodes = c.args.pool.now.nodes in
     let node = c.in_ok-node-in-Former.node in
     let changing = c.args.changing.now in
-    let reach = g.C.Changing.reach changing in
+    let reach = g.C.Changing.reach changing nodes in
     let changes = g.C.Changing.changes changing nodes in
     let made = get eq-value.it c.args.made.now in
     let known = IsNodeAt-copy nodes c.args.place c.node-node.result.now node c.node-node.ensures.node c.node-node.ensures.tree c.node-node.ensures.form c.in_ok-node-in-Former.ensures in
     let goes : IsBeyond (reach_of reach) nodes c.args.place → ⊥ = λ beyond.
-    true≢false (sym (c.is_beyond.ensures.beyond.1 (subst (λ (r : Reach). IsBeyond (reach_of r) nodes c.args.place) (sym c.reach.ensures) beyond)) ∙ c.if-is_beyond.false) in
-    let listed = c.deref.ensures.value ∙ (c.in_ok-below-in-Former.ensures.below ∙ ap (places_below c.args.place) (sym c.in_ok-node-in-Former.ensures)) in
-    remade_form changes nodes c.args.place node known (reach_of reach) goes made c.requires.kids (ap role_of c.in_ok-node-in-Former.ensures ∙ (sym c.form.ensures.role ∙ c.in-Former.is)) c.made_kids-node.result
+    true≢false (sym (c.is_beyond.ensures.beyond.1 (subst (λ (r : Reach). IsBeyond (reach_of r) nodes c.args.place) (sym c.reach-reach.ensures) beyond)) ∙ c.if-is_beyond.false) in
+    let listed = c.deref.ensures.value ∙ (c.in_ok-below-in-Former.ensures.below
+    ∙ (λ i. next_below (reach_of (c.reach-reach.ensures i)) nodes c.args.place (sym c.in_ok-node-in-Former.ensures i))) in
+    let keeps : KeepsTo (reach_of reach) changes = record { within = g.met.C.Changing.stays changing nodes; steady = g.met.C.Changing.steady changing nodes; moves = g.met.C.Changing.moves changing nodes } in
+    remade_form changes nodes c.args.place node known (reach_of reach) goes made c.requires.kids keeps (ap role_of c.in_ok-node-in-Former.ensures ∙ (sym c.form.ensures.role ∙ c.in-Former.is)) c.made_kids-node.result
     (c.made_kids-node.ensures ∙ ap (map (new_id made)) listed) (g.met.C.Changing.sorts changing nodes c.requires.there)
 
 pub returns-in_ok-make-in-Former-clause-answer : goal.returns-in_ok-make-in-Former-clause-answer
@@ -120,13 +127,15 @@ returns-in_ok-make-in-Former-clause-answer g c =
     let nodes = c.args.pool.now.nodes in
     let node = c.in_ok-node-in-Former.node in
     let changing = c.args.changing.now in
-    let reach = g.C.Changing.reach changing in
+    let reach = g.C.Changing.reach changing nodes in
     let changes = g.C.Changing.changes changing nodes in
     let made = get eq-value.it c.args.made.now in
     let known = IsNodeAt-copy nodes c.args.place c.node-node.result.now node c.node-node.ensures.node c.node-node.ensures.tree c.node-node.ensures.form c.in_ok-node-in-Former.ensures in
     let goes : IsBeyond (reach_of reach) nodes c.args.place → ⊥ = λ beyond.
-    true≢false (sym (c.is_beyond.ensures.beyond.1 (subst (λ (r : Reach). IsBeyond (reach_of r) nodes c.args.place) (sym c.reach.ensures) beyond)) ∙ c.if-is_beyond.false) in
-    let listed = c.deref.ensures.value ∙ (c.in_ok-below-in-Former.ensures.below ∙ ap (places_below c.args.place) (sym c.in_ok-node-in-Former.ensures)) in
-    let same = remade_tree changes nodes c.args.place node known (reach_of reach) goes made c.requires.kids (ap role_of c.in_ok-node-in-Former.ensures ∙ (sym c.form.ensures.role ∙ c.in-Former.is)) c.made_kids-node.result
+    true≢false (sym (c.is_beyond.ensures.beyond.1 (subst (λ (r : Reach). IsBeyond (reach_of r) nodes c.args.place) (sym c.reach-reach.ensures) beyond)) ∙ c.if-is_beyond.false) in
+    let listed = c.deref.ensures.value ∙ (c.in_ok-below-in-Former.ensures.below
+    ∙ (λ i. next_below (reach_of (c.reach-reach.ensures i)) nodes c.args.place (sym c.in_ok-node-in-Former.ensures i))) in
+    let keeps : KeepsTo (reach_of reach) changes = record { within = g.met.C.Changing.stays changing nodes; steady = g.met.C.Changing.steady changing nodes; moves = g.met.C.Changing.moves changing nodes } in
+    let same = remade_tree changes nodes c.args.place node known (reach_of reach) goes made c.requires.kids keeps (ap role_of c.in_ok-node-in-Former.ensures ∙ (sym c.form.ensures.role ∙ c.in-Former.is)) c.made_kids-node.result
     (c.made_kids-node.ensures ∙ ap (map (new_id made)) listed) in
     (c.in_ok-make-in-Former.ensures.within, c.in_ok-make-in-Former.ensures.tree ∙ same)

@@ -8,8 +8,8 @@ use Rattle.rz_pool.proofs.pool.Pool.make.Goals.{In_ok-id}
 -- what the table's insertion made
 made : (c : In_ok-id) → IsMade c.args.self.now.nodes c.args.node c.insert_full.new.self.entries c.in_ok-id.id
 made c =
-    IsMade-insert c.self.inside.nodes.entries c.args.self.now.nodes c.args.node c.bounds_of-bounds.result c.insert_full.new.self.entries c.in_ok-id.id c.in_ok-id.id refl
-    (ap (λ (v : Contents). v.nodes) c.self.view_is) c.self.invariant c.requires c.bounds_of-bounds.ensures c.in_ok-id.ensures.entries c.in_ok-id.ensures.index
+    IsMade-insert c.self.inside.nodes.entries c.args.self.now.nodes c.args.node c.spans_of-spans.result c.insert_full.new.self.entries c.in_ok-id.id c.in_ok-id.id refl
+    (ap (λ (v : Contents). v.nodes) c.self.view_is) c.self.invariant c.requires c.spans_of-spans.ensures c.in_ok-id.ensures.entries c.in_ok-id.ensures.index
 
 pub returns-clause-makes : goal.returns-clause-makes
 returns-clause-makes c = (made c).makes

@@ -1,13 +1,13 @@
 use Rattle.std.proofs.Common.{take, ap, sym, subst, ◌∙◌}
 use Rattle.std.specs.Map.{keys_of, values_of}
 use Rattle.rz_pool.specs.Pool.{Contents, IsPool}
-use Rattle.rz_pool.specs.Free.{HaveBounds}
+use Rattle.rz_pool.specs.Free.{HaveSpans}
 use Rattle.rz_pool.proofs.Sets.{Entries, keys-take, IsKept-take}
 use Rattle.rz_pool.proofs.pool.Pool.release.Goals as goal
 
 pub invariant_of-self : goal.invariant_of-self
 invariant_of-self c =
-    subst (λ (es : Entries). IsPool (keys_of es) × HaveBounds (keys_of es) (values_of es)) (sym c.truncate.ensures.entries)
+    subst (λ (es : Entries). IsPool (keys_of es) × HaveSpans (keys_of es) (values_of es)) (sym c.truncate.ensures.entries)
     (IsKept-take c.self.inside.nodes.entries _ c.self.invariant)
 
 pub returns-clause-nodes : goal.returns-clause-nodes
