@@ -7,8 +7,8 @@ use Rattle.rz_rules.specs.declared.judgments.Judgment.{Judgment}
 use Rattle.rz_rules.specs.Tree.{Tree, tree_at}
 use Rattle.rz_rules.specs.Judgment.{IsStatement, Statement, context_of, kind_of, parts_of, statement}
 use Rattle.rz_rules.specs.Row.{IsInstance}
-use Rattle.rz_rules.specs.Table.{rule_of}
-use Rattle.rz_rules.specs.Derivation.{Follows, IsScoped}
+use Rattle.rz_rules.specs.Table.{Rule, rule_of}
+use Rattle.rz_rules.specs.Derivation.{Applies, Follows, IsScoped, IsSpelled}
 use Rattle.rz_kernel_rows.specs.Line.{IsInstanceOf}
 use Rattle.rz_kernel_rows.proofs.Lists.{slice_get-map, slice_get_is}
 use Rattle.std.proofs.lemmas.List.Elements.{All-cons, All-nil}
@@ -37,37 +37,29 @@ somes_same (x ∷ xs) (y ∷ ys) e =
     let rest : xs ≡ ys = somes_same xs ys others in
     cc
 
-spoken : (ts : List Tree) (premises : List Judgment) (says : Judgment) → map (statement ts) (premises ++ says ∷ []) ≡ map (statement ts) premises ++ statement ts says ∷ []
+pub spoken : (ts : List Tree) (premises : List Judgment) (says : Judgment) → map (statement ts) (premises ++ says ∷ []) ≡ map (statement ts) premises ++ statement ts says ∷ []
 spoken ts premises says = map-append (statement ts) premises (says ∷ [])
 
--- a line follows exactly where its trees are trees and its premises and what it says are an instance of its rule
+-- an instance of a row's text that meets the row's conditions
+pub spelled_iff : (rule : Rule) (ts : List Tree) (premises : List Judgment) (says : Judgment) → IsInstanceOf rule (map (statement ts) (premises ++ says ∷ []))
+    ↔ IsSpelled rule (map (statement ts) premises) (statement ts says)
+spelled_iff rule ts premises says = (
+  λ h. record { assignment = h.0; instance = subst (IsInstance rule.text h.0) (spoken ts premises says) h.1; conditions = h.2 },
+  λ h. (h.assignment, subst (IsInstance rule.text h.assignment) (sym (spoken ts premises says)) h.instance, h.conditions),
+)
+
+-- a line follows exactly where its trees are trees and its rule leads from its premises to what it says
 pub step_iff : (ts : List Tree) (row : Row) (number : ℕ) (says : Judgment) (all premises : List Judgment) (from : List ℕ)
-    → number ≡ 0 → IsStatement (statement ts says) → map (λ j. Some j) premises ≡ map (slice_get all) from
-    → (IsInstanceOf (rule_of row) (map (statement ts) (premises ++ says ∷ [])) × IsScoped (kind_of says) (tree_at ts (context_of says)) (map (tree_at ts) (parts_of says)))
+    → IsStatement (statement ts says) → map (λ j. Some j) premises ≡ map (slice_get all) from
+    → (Applies (rule_of row) number (map (statement ts) premises) (statement ts says) × IsScoped (kind_of says) (tree_at ts (context_of says)) (map (tree_at ts) (parts_of says)))
     ↔ Follows (map (statement ts) all) (record { row = row; number = number; says = statement ts says; from = from })
-step_iff ts row number says all premises from zero_is trees named = (to, back) where
-  chosen : map (slice_get (map (statement ts) all)) from ≡ map (λ x. Some x) (map (statement ts) premises)
-  chosen = premises_are (statement ts) all premises from named
-
-  whole : map (statement ts) (premises ++ says ∷ []) ≡ map (statement ts) premises ++ statement ts says ∷ []
-  whole = spoken ts premises says
-
-  to : IsInstanceOf (rule_of row) (map (statement ts) (premises ++ says ∷ [])) × IsScoped (kind_of says) (tree_at ts (context_of says)) (map (tree_at ts) (parts_of says))
-      → Follows (map (statement ts) all) (record { row = row; number = number; says = statement ts says; from = from })
-  to h = record {
-    trees = trees;
-    scoped = h.1;
-    premises = map (statement ts) premises;
-    from = chosen;
-    applies = record { unused = zero_is; assignment = h.0.0; instance = subst (IsInstance (rule_of row).text h.0.0) whole h.0.1; conditions = h.0.2 };
-  }
-
-  back : Follows (map (statement ts) all) (record { row = row; number = number; says = statement ts says; from = from })
-      → IsInstanceOf (rule_of row) (map (statement ts) (premises ++ says ∷ [])) × IsScoped (kind_of says) (tree_at ts (context_of says)) (map (tree_at ts) (parts_of says))
-  back h =
-      let same : h.premises ≡ map (statement ts) premises = somes_same h.premises (map (statement ts) premises) (sym h.from ∙ chosen) in
-      let is : h.premises ++ statement ts says ∷ [] ≡ map (statement ts) (premises ++ says ∷ []) = ap (λ (ps : List Statement). ps ++ statement ts says ∷ []) same ∙ sym whole in
-      ((h.applies.assignment, subst (IsInstance (rule_of row).text h.applies.assignment) is h.applies.instance, h.applies.conditions), h.scoped)
+step_iff ts row number says all premises from trees named =
+    let chosen = premises_are (statement ts) all premises from named in (
+      λ h. record { trees = trees; scoped = h.1; premises = map (statement ts) premises; from = chosen; applies = h.0 },
+      λ h.
+          let same : h.premises ≡ map (statement ts) premises = somes_same h.premises (map (statement ts) premises) (sym h.from ∙ chosen) in
+          (subst (λ (ps : List Statement). Applies (rule_of row) number ps (statement ts says)) same h.applies, h.scoped),
+    )
 
 -- what is there over trees is there by ids
 some_back : {A B : Type 0} (f : A → B) (o : Option A) (b : B) → option_map f o ≡ Some b → (a : A) × (o ≡ Some a)

@@ -7,6 +7,15 @@ pub mod Instances
 pub mod Following
 pub mod Spelled
 pub mod Cubes
+pub mod Entries
+pub mod Changing
+pub mod Extending
+pub mod Moving
+pub mod Judged
+pub mod Giving
+pub mod Typed
+pub mod Owning
+pub mod Concluding
 pub mod Scopes
 pub mod Telling
 pub mod Nodes

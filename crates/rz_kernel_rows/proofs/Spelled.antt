@@ -50,7 +50,7 @@ by_parts (Same c a b t) (Same d x y u) k e f =
     λ i. Same (e i) (a_is i) (b_is i) (t_is i)
 by_parts one other k e f = absurd cc
 
-same_judgment : (nodes : List Node) → ShareTrees nodes → (one other : Judgment) → IsLive nodes one → IsLive nodes other → statement (trees_in nodes) one ≡ statement (trees_in nodes) other → one ≡ other
+pub same_judgment : (nodes : List Node) → ShareTrees nodes → (one other : Judgment) → IsLive nodes one → IsLive nodes other → statement (trees_in nodes) one ≡ statement (trees_in nodes) other → one ≡ other
 same_judgment nodes shared one other low also e =
     by_parts one other (ap (λ (s : Statement). s.kind) e)
     (shared (context_of one) (context_of other) (All-head (λ id. id < length nodes) (context_of one) (parts_of one) low) (All-head (λ id. id < length nodes) (context_of other) (parts_of other) also)

@@ -151,3 +151,41 @@ FindsAll nodes text judgments letters name =
 abbrev pub HasNoInstance : List Node → List Symbol → List Judgment → Type 0
 HasNoInstance nodes text judgments =
     (assignment : Assignment) → IsInstance text assignment (map (statement (trees_in nodes)) judgments) → ⊥
+
+-- a walk past a whole text: what was left before it is over, and what it meets is found
+pub record IsPassed (nodes : List Node) (text : List Symbol) (old new : Walk) : Type 0 where
+  pub remains : (assignment : Assignment) → Remains nodes text assignment old → Remains nodes [] assignment new
+  pub met : (letter : Letter) → Contains (letters_met (known old) text) letter → IsFound nodes new.finding.letters.items letter
+  pub met_name : IsTrue (meets_name (known old) text) → IsSome new.finding.name
+
+-- no walk past the text
+abbrev pub IsRefused : List Node → List Symbol → Walk → Type 0
+IsRefused nodes text walk = (assignment : Assignment) → Remains nodes text assignment walk → ⊥
+
+-- the end of a text, behind its last judgment
+abbrev pub last_words : List Symbol → List Symbol → List Symbol
+last_words end [] = end
+last_words end (symbol.Says kind ∷ text) = last_words text text
+last_words end (symbol ∷ text) = last_words end text
+
+-- behind its last judgment the text spells first the context and then the term that the judgment speaks of
+pub record SpeaksOf (nodes : List Node) (text : List Symbol) (context term : ℕ) (assignment : Assignment) : Type 0 where
+  pub letters : All (HasLetter assignment) (letters_in (last_words text text))
+  pub context_is : tree_at (spelled (last_words text text) assignment).trees 0 ≡ tree_of nodes context
+  pub term_is : tree_at (spelled (last_words text text) assignment).trees 1 ≡ tree_of nodes term
+  pub last : (spelled (last_words text text) assignment).statements ≡ []
+
+-- the letters of each text that speaks of the term are those that were found
+abbrev pub FindsSubject : List Node → List Symbol → ℕ → ℕ → List (Option ℕ) → Option ℕ → Type 0
+FindsSubject nodes text context term letters name =
+    (assignment : Assignment) → SpeaksOf nodes text context term assignment → StandsFor nodes letters name assignment
+
+abbrev pub HasNoSubject : List Node → List Symbol → ℕ → ℕ → Type 0
+HasNoSubject nodes text context term = (assignment : Assignment) → SpeaksOf nodes text context term assignment → ⊥
+
+-- each letter of the text, and the name where there is one, is met in the context and the term of its last judgment
+abbrev pub subject_determines : List Symbol → Bool
+subject_determines text =
+    let met = letters_met (true ∷ true ∷ []) (last_words text text) in
+    list_all (λ letter. list_any (same_letter letter) met) (letters_in text)
+    && (if has_name text then meets_name (true ∷ true ∷ []) (last_words text text) else true)

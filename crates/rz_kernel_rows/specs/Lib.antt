@@ -1,4 +1,7 @@
 pub mod Scope
 pub mod Finding
 pub mod Line
+pub mod Context
+pub mod Move
+pub mod Typing
 pub use Rattle.rz_rules.specs.Derivation

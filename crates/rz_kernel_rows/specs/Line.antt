@@ -1,19 +1,20 @@
 -- A line over the nodes of a pool.
-use Rattle.std.specs.Prelude.{◌≡◌, ◌<◌, ◌∷◌, [], Bool, List, length, All, map}
+use Rattle.std.specs.Prelude.{◌∷◌, [], Bool, List, All, map}
 use Rattle.rz_rules.specs.declared.nodes.Node.{Node}
 use Rattle.rz_rules.specs.declared.judgments.Judgment.{Judgment}
 use Rattle.rz_rules.specs.declared.judgments.Line.{Line}
 use Rattle.rz_rules.specs.declared.symbols.Letter.{Letter}
 use Rattle.rz_rules.specs.declared.symbols.Condition.{Condition}
 use Rattle.rz_rules.specs.declared.symbols.Condition.TheVariants.{FewLeaves, TopeOver, PointOf}
-use Rattle.rz_rules.specs.Tree.{sort_of, tree_of, trees_in}
-use Rattle.rz_rules.specs.Judgment.{Statement, ids_of, kind_of, sorts_of, statement}
+use Rattle.rz_rules.specs.Tree.{trees_in}
+use Rattle.rz_rules.specs.Judgment.{Statement, statement}
 use Rattle.std.specs.List.{list_all, list_any}
 use Rattle.rz_rules.specs.Row.{Assignment, IsInstance}
 use Rattle.rz_rules.specs.Table.{Rule}
 use Rattle.rz_rules.specs.Text.{same_letter}
 use Rattle.rz_rules.specs.Derivation.{IsMet, Step}
 use Rattle.rz_rules.specs.File.{step_over}
+pub use Rattle.rz_spell.specs.Spelling.{IsJudgmentOver}
 
 -- the letters of a condition
 abbrev pub letters_of : Condition → List Letter
@@ -21,12 +22,7 @@ letters_of (FewLeaves cube) = cube ∷ []
 letters_of (TopeOver context tope) = context ∷ tope ∷ []
 letters_of (PointOf context cube point) = context ∷ cube ∷ point ∷ []
 
--- what a judgment says names nodes that are there, of the sorts of its kind
-pub record IsJudgmentOver (nodes : List Node) (says : Judgment) : Type 0 where
-  pub live : All (λ id. id < length nodes) (ids_of says)
-  pub sorts : map sort_of (map (tree_of nodes) (ids_of says)) ≡ sorts_of (kind_of says)
-
--- so does a line
+-- a line says something of nodes that are there
 abbrev pub IsLineOver : List Node → Line → Type 0
 IsLineOver nodes line = IsJudgmentOver nodes line.says
 

@@ -7,9 +7,8 @@ use Rattle.rz_rules.specs.declared.kinds.Kind.{Kind}
 use Rattle.rz_rules.specs.declared.nodes.Node.{Node}
 use Rattle.rz_rules.specs.Form.{kid_sorts}
 use Rattle.rz_rules.specs.Tree.{Tree, sort_of, tree_of}
-use Rattle.rz_rules.specs.Cube.{Binders, cube_two, product, left_part, right_part, leaves, cubes_of}
+use Rattle.rz_rules.specs.Cube.{Binders, cube_two, product, left_part, right_part, leaves}
 use Rattle.rz_rules.specs.Tope.{cube_of, IsTopeOver}
-use Rattle.rz_kernel_rows.specs.declared.points.Entry.{Entry}
 use Rattle.rz_kernel_rows.specs.declared.points.Scope.{Scope}
 
 -- the id of a cube
@@ -51,16 +50,6 @@ pub record IsStep (ns : List Node) (before : List ℕ) (counted : ℕ) (after : 
 pub record IsCubeTold (nodes : List Node) (cube : Option Tree) (told : Option ℕ) : Type 0 where
   pub there : IfSome told (IsCubeAt nodes)
   pub is : cube ≡ option_map (tree_of nodes) told
-
--- a cube in front, where there is one
-abbrev pub with_cube : Option Tree → List Tree → List Tree
-with_cube None cubes = cubes
-with_cube (Some cube) cubes = cube ∷ cubes
-
--- the last entry of the context with this id
-pub record IsEntry (nodes : List Node) (context : ℕ) (entry : Entry) : Type 0 where
-  pub cubes : cubes_of (tree_of nodes context) ≡ with_cube (option_map (tree_of nodes) entry.cube) (cubes_of (tree_of nodes entry.before))
-  pub there : IfSome entry.cube (IsCubeAt nodes)
 
 -- the binders with the cubes of these ids
 abbrev pub binders_at : List Node → List ℕ → Binders

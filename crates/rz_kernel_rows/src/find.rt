@@ -5,14 +5,14 @@
 //! the letters of every instance are those that are found, and whether there is one is told by spelling the text with them.
 
 ghost use Rattle.std.specs.Prelude.{◌≡◌, ◌<◌, ◌++◌, length, replicate, drop, All, Some, None, IsTrue, IsSome, IfOk, IfSome, IfNone, OnOk, map};
-ghost use Rattle.std.specs.Bool.{OnTrue};
+ghost use Rattle.std.specs.Bool.{OnTrue, OnFalse};
 ghost use Rattle.rz_rules.specs.Judgment.{ids_of};
 ghost use Rattle.rz_rules.specs.Form.{form};
 ghost use Rattle.rz_rules.specs.Tree.{tree_of};
 ghost use Rattle.rz_rules.specs.Row.{letters_in};
 ghost use Rattle.rz_rules.specs.Text.{IsText, label_fits};
 ghost use Rattle.rz_rules.specs.declared.symbols.Symbol.TheVariants.{Letter as LetterOf, Node as NodeOf, Says};
-ghost use Rattle.rz_kernel_rows.specs.Finding.{Answers, AnswersLabel, AnswersName, FindsAll, HasNoInstance, IsFinding, IsWalk, first_expected, is_determined, kind_in, symbol_fits};
+ghost use Rattle.rz_kernel_rows.specs.Finding.{Answers, AnswersLabel, AnswersName, FindsAll, FindsSubject, HasNoInstance, HasNoSubject, IsFinding, IsPassed, IsRefused, IsWalk, first_expected, is_determined, kind_in, last_words, subject_determines, symbol_fits};
 ghost use Rattle.rz_spell.specs.Letters.{HasName, IsFound, has_name, is_row_name, name_in};
 
 use rz_pool::Pool;
@@ -63,21 +63,100 @@ pub fn find(
     ensures none { IfOk result
         (λ answer. IfNone answer (HasNoInstance pool.now.nodes text.now judgments.now)) }
 {
-    let mut walk = Walk {
-        expected: VecDeque::new(alloc),
-        rest: judgments,
-        finding: nothing_found(alloc)?,
-    };
-    for symbol in text {
-        if !pass(&mut walk, pool, *symbol)? {
-            return Ok(None);
-        }
+    let mut walk = walk_from(alloc, VecDeque::new(alloc), judgments)?;
+    if !pass_all(&mut walk, pool, text)? {
+        return Ok(None);
     }
     if walk.rest.is_empty() {
         Ok(Some(walk.finding))
     } else {
         Ok(None)
     }
+}
+
+/// The letters of a text whose last judgment says something of this term in this context; `None` where it can't.
+pub fn find_subject(
+    alloc: Global,
+    pool: &Pool,
+    text: &[Symbol],
+    context: u64,
+    term: u64,
+) -> Result<Option<Finding>, OutOfMemory>
+    requires context { context < length pool.now.nodes }
+    requires term { term < length pool.now.nodes }
+    requires text { IsText text.now }
+    ensures finds { IfOk result (λ answer. IfSome answer (λ found.
+        FindsSubject pool.now.nodes text.now context term found.letters.items found.name)) }
+    ensures there { IfOk result (λ answer. IfSome answer
+        (λ found. IsFinding pool.now.nodes found.letters.items found.name)) }
+    ensures letters { IfOk result (λ answer. IfSome answer (λ found.
+        IsTrue (subject_determines text.now)
+        → All (IsFound pool.now.nodes found.letters.items) (letters_in text.now))) }
+    ensures name { IfOk result (λ answer. IfSome answer (λ found.
+        IsTrue (subject_determines text.now) → IsTrue (has_name text.now) → IsSome found.name)) }
+    ensures none { IfOk result
+        (λ answer. IfNone answer (HasNoSubject pool.now.nodes text.now context term)) }
+{
+    let mut expected = VecDeque::new(alloc);
+    expect(&mut expected, &[context, term])?;
+    let mut walk = walk_from(alloc, expected, &[])?;
+    if pass_all(&mut walk, pool, behind_judgments(text))? {
+        Ok(Some(walk.finding))
+    } else {
+        Ok(None)
+    }
+}
+
+/// The end of a text, behind the last symbol that is a judgment.
+fn behind_judgments(text: &[Symbol]) -> &[Symbol]
+    ensures { result.now ≡ last_words text.now text.now }
+{
+    let mut end = text;
+    let mut left = text;
+    while let Some((symbol, others)) = left.split_first() {
+        if let Symbol::Says(_) = symbol {
+            end = others;
+        }
+        left = others;
+    }
+    end
+}
+
+/// Walks past these symbols; `false` where one of them can't stand there.
+fn pass_all(walk: &mut Walk, pool: &Pool, text: &[Symbol]) -> Result<bool, OutOfMemory>
+    requires fits { All (λ symbol. IsTrue (symbol_fits symbol)) text.now }
+    requires walk { IsWalk pool.now.nodes walk.old }
+    ensures walk { OnOk result (IsWalk pool.now.nodes walk.new) }
+    ensures passes { IfOk result (λ passed. OnTrue passed
+        (IsPassed pool.now.nodes text.now walk.old walk.new)) }
+    ensures refuses { IfOk result (λ passed. OnFalse passed
+        (IsRefused pool.now.nodes text.now walk.old)) }
+{
+    for symbol in text {
+        if !pass(walk, pool, *symbol)? {
+            return Ok(false);
+        }
+    }
+    Ok(true)
+}
+
+/// A walk that begins where these trees are expected and then these judgments.
+fn walk_from(
+    alloc: Global,
+    expected: VecDeque<Option<u64>>,
+    rest: &[Judgment],
+) -> Result<Walk<'_>, OutOfMemory>
+    ensures expected { IfOk result (λ walk. walk.expected.items ≡ expected.items) }
+    ensures rest { IfOk result (λ walk. walk.rest.now ≡ rest.now) }
+    ensures letters { IfOk result
+        (λ walk. walk.finding.letters.items ≡ replicate LETTERS None) }
+    ensures name { IfOk result (λ walk. walk.finding.name ≡ None) }
+{
+    Ok(Walk {
+        expected,
+        rest,
+        finding: nothing_found(alloc)?,
+    })
 }
 
 /// Nothing is found yet.

@@ -2,9 +2,13 @@
 #![tactic(auto)]
 
 mod conditions;
+mod contexts;
 mod find;
+mod formers;
 mod leaves;
 mod lines;
+mod moves;
 mod points;
+mod variables;
 
 pub use lines::follows;

@@ -1,22 +1,27 @@
 //! Whether a line follows.
 
-ghost use Rattle.std.specs.Prelude.{◌≡◌, ℕ, ◌↔◌, List, All, IsTrue, Some, IfOk, IfSome, IfNone, map, slice_get};
+ghost use Rattle.std.specs.Prelude.{◌≡◌, ◌≢◌, ℕ, ◌↔◌, List, None, All, IsTrue, Some, IfOk, IfSome, IfNone, map, slice_get};
 ghost use Rattle.std.specs.Option.{option_copied};
 ghost use Rattle.rz_rules.specs.declared.judgments.Judgment.{Judgment};
-ghost use Rattle.rz_rules.specs.Derivation.{Follows};
+ghost use Rattle.rz_rules.specs.Derivation.{Applies, Follows, IsSpelled};
 ghost use Rattle.rz_rules.specs.Judgment.{statement};
 ghost use Rattle.rz_rules.specs.Row.{IsInstance};
+ghost use Rattle.rz_rules.specs.Structural.{ConcludesBy, IsContextOf};
 ghost use Rattle.rz_rules.specs.Table.{rule_of};
 ghost use Rattle.rz_rules.specs.Tree.{trees_in};
 ghost use Rattle.rz_pool.specs.Pool.{Grows, IsPool};
 ghost use Rattle.rz_spell.specs.Letters.{assignment_of};
 ghost use Rattle.rz_spell.specs.Spelling.{AreLetters};
 ghost use Rattle.rz_kernel_rows.specs.Line.{IsInstanceOf, IsJudgmentOver, IsLineOver, said, statements_of, step_of};
+ghost use Rattle.rz_kernel_rows.specs.Move.{IsConclusion, IsConclusionFor};
 
 use crate::conditions::{are_met, is_scoped};
 use crate::find::{Finding, find};
+use crate::formers::{inversion, own};
+use crate::moves::{remove, weaken};
+use crate::variables::{hypothesis, variable};
 use rz_pool::Pool;
-use rz_rules::{Judgment, Line, OutOfMemory, Row};
+use rz_rules::{Judgment, Line, OutOfMemory, Row, Scheme};
 use rz_spell::spell;
 use std::alloc::Global;
 
@@ -35,28 +40,142 @@ pub fn follows(
         ↔ Follows (statements_of pool.old.nodes lines.now) (step_of pool.old.nodes line.now)) }
     ensures nodes { pool.new.nodes ≡ pool.old.nodes }
 {
-    if line.number != 0 {
-        return Ok(false);
-    }
-    let Some(mut judgments) = premises_of(alloc, lines, line.from.as_slice())? else {
+    let Some(premises) = premises_of(alloc, lines, line.from.as_slice())? else {
         return Ok(false);
     };
-    judgments.push(line.says)?;
-    if !applies(alloc, pool, line.row, &judgments)? {
+    if !applies(alloc, pool, line, premises)? {
         return Ok(false);
     }
     is_scoped(alloc, pool, line.says)
 }
 
-/// Whether a row's rule leads from all but the last of these judgments to the last.
+/// Whether a line's rule leads from these premises to what it says.
 fn applies(
+    alloc: Global,
+    pool: &mut Pool,
+    line: &Line,
+    premises: Vec<Judgment>,
+) -> Result<bool, OutOfMemory>
+    requires premises { All (IsJudgmentOver pool.old.nodes) premises.items }
+    requires line { IsLineOver pool.old.nodes line.now }
+    ensures applies { IfOk result (λ yes. IsTrue yes
+        ↔ Applies (rule_of line.now.row) line.now.number
+        (map (statement (trees_in pool.old.nodes)) premises.items)
+        (statement (trees_in pool.old.nodes) line.now.says)) }
+    ensures nodes { pool.new.nodes ≡ pool.old.nodes }
+    ensures pool { IsPool pool.old.nodes }
+{
+    let mark = pool.mark();
+    match line.row.scheme() {
+        Scheme::Text => is_spelled_by_row(alloc, pool, line, premises),
+        scheme => {
+            let said = conclusion(alloc, pool, scheme, line, &premises);
+            pool.release(mark);
+            Ok(is_said(said?, line.says))
+        }
+    }
+}
+
+/// Whether the text of a line's row leads from these premises to what it says.
+fn is_spelled_by_row(
+    alloc: Global,
+    pool: &mut Pool,
+    line: &Line,
+    mut premises: Vec<Judgment>,
+) -> Result<bool, OutOfMemory>
+    requires premises { All (IsJudgmentOver pool.old.nodes) premises.items }
+    requires line { IsLineOver pool.old.nodes line.now }
+    ensures spelled { IfOk result (λ yes. IsTrue yes ↔ ((line.now.number ≡ 0)
+        × IsSpelled (rule_of line.now.row)
+        (map (statement (trees_in pool.old.nodes)) premises.items)
+        (statement (trees_in pool.old.nodes) line.now.says))) }
+    ensures nodes { pool.new.nodes ≡ pool.old.nodes }
+{
+    if line.number != 0 {
+        return Ok(false);
+    }
+    premises.push(line.says)?;
+    is_instance(alloc, pool, line.row, &premises)
+}
+
+/// Whether there is a judgment and it is this one.
+fn is_said(said: Option<Judgment>, says: Judgment) -> bool
+    ensures { IsTrue result ↔ (said ≡ Some says) }
+{
+    match said {
+        Some(said) => said == says,
+        None => false,
+    }
+}
+
+/// What a rule with a scheme of its own concludes from these premises for a line; `None` where it concludes nothing.
+fn conclusion(
+    alloc: Global,
+    pool: &mut Pool,
+    scheme: Scheme,
+    line: &Line,
+    premises: &[Judgment],
+) -> Result<Option<Judgment>, OutOfMemory>
+    requires pool { IsPool pool.old.nodes }
+    requires premises { All (IsJudgmentOver pool.old.nodes) premises.now }
+    requires line { IsLineOver pool.old.nodes line.now }
+    ensures concludes { IfOk result (IsConclusionFor pool.new.nodes
+        (statement (trees_in pool.old.nodes) line.now.says) (ConcludesBy scheme line.now.number
+        (map (statement (trees_in pool.old.nodes)) premises.now))) }
+    ensures grows { Grows pool.old.nodes pool.new.nodes }
+    ensures pool { IsPool pool.new.nodes }
+{
+    let number = line.number;
+    match scheme {
+        Scheme::Text => Ok(None),
+        Scheme::Hypothesis => hypothesis(alloc, pool, number, premises),
+        Scheme::Variable => {
+            let says = variable(alloc, pool, line.says, premises)?;
+            Ok(unnumbered(number, says))
+        }
+        Scheme::Weakening => weaken(alloc, pool, number, premises),
+        Scheme::TermCut | Scheme::CubeCut | Scheme::TopeCut => {
+            remove(alloc, pool, scheme, number, premises)
+        }
+        Scheme::ContextOf => Ok(unnumbered(number, context_of(premises))),
+        Scheme::Inversion => inversion(alloc, pool, number, premises),
+        Scheme::OwnType => {
+            let says = own(alloc, pool, premises)?;
+            Ok(unnumbered(number, says))
+        }
+    }
+}
+
+/// The conclusion of a rule that has no use for a line's number, which is to be 0.
+fn unnumbered(number: u64, says: Option<Judgment>) -> Option<Judgment>
+    ensures zero { number ≡ 0 → result ≡ says }
+    ensures other { number ≢ 0 → result ≡ None }
+{
+    if number == 0 { says } else { None }
+}
+
+/// That the context of the one premise is formed.
+fn context_of(premises: &[Judgment]) -> Option<Judgment>
+    ensures { (nodes : _) → All (IsJudgmentOver nodes) premises.now
+        → IsConclusion nodes (IsContextOf (map (statement (trees_in nodes)) premises.now)) result }
+{
+    match premises {
+        [premise] => Some(Judgment::Formed {
+            c: premise.context(),
+        }),
+        _ => None,
+    }
+}
+
+/// Whether a row's text leads from all but the last of these judgments to the last.
+fn is_instance(
     alloc: Global,
     pool: &mut Pool,
     row: Row,
     judgments: &[Judgment],
 ) -> Result<bool, OutOfMemory>
     requires { All (IsJudgmentOver pool.old.nodes) judgments.now }
-    ensures applies { IfOk result (λ yes. IsTrue yes
+    ensures instance { IfOk result (λ yes. IsTrue yes
         ↔ IsInstanceOf (rule_of row) (map (statement (trees_in pool.old.nodes)) judgments.now)) }
     ensures nodes { pool.new.nodes ≡ pool.old.nodes }
     ensures pool { IsPool pool.old.nodes }

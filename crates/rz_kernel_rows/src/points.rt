@@ -12,8 +12,9 @@ ghost use Rattle.rz_rules.specs.Tree.{At, trees_of, tree_of};
 ghost use Rattle.rz_rules.specs.Cube.{binders_of, product as product_tree, cubes_of as entries_of, left_part, right_part};
 ghost use Rattle.rz_rules.specs.Tope.{cube_of, IsTopeOver, IsPointOf};
 ghost use Rattle.rz_pool.specs.Pool.{Grows};
-ghost use Rattle.rz_kernel_rows.specs.Scope.{binders_at, AreCubes, AreKidsOf, IsCubeAt, IsCubeTold, IsEntry, IsScope, Tells, TellsKids};
+ghost use Rattle.rz_kernel_rows.specs.Scope.{binders_at, AreCubes, AreKidsOf, IsCubeAt, IsCubeTold, IsScope, Tells, TellsKids};
 
+use crate::contexts::{Entry, last_entry};
 use crate::leaves::parts_of;
 use rz_pool::Pool;
 use rz_rules::{Kids, Kind, Name, Node, OutOfMemory};
@@ -107,46 +108,13 @@ fn cubes_of(alloc: Global, pool: &Pool, context: u64) -> Result<Vec<u64>, OutOfM
 {
     let mut cubes = Vec::new(alloc);
     let mut at = context;
-    while let Some(entry) = last_entry(pool, at) {
-        if let Some(cube) = entry.cube {
+    while let Some(last) = last_entry(pool, at) {
+        if let Entry::Cube(cube) = last.entry {
             cubes.push(cube)?;
         }
-        at = entry.before;
+        at = last.before;
     }
     Ok(cubes)
-}
-
-/// The last entry of a context.
-#[derive(Clone, Copy)]
-struct Entry {
-    /// The context before it.
-    before: u64,
-    /// Its cube, where it is a cube entry.
-    cube: Option<u64>,
-}
-
-/// The last entry of a context; `None` where it has none.
-fn last_entry(pool: &Pool, context: u64) -> Option<Entry>
-    requires { context < length pool.now.nodes }
-    ensures lower { IfSome result (λ entry. entry.before < context) }
-    ensures entry { IfSome result (IsEntry pool.now.nodes context) }
-    ensures none { IfNone result (entries_of (tree_of pool.now.nodes context) ≡ []) }
-{
-    let node = pool.node(context);
-    match node.kind {
-        Kind::CubeEntry => {
-            let (before, cube) = two_kids(&node.kids);
-            Some(Entry {
-                before,
-                cube: Some(cube),
-            })
-        }
-        Kind::TopeEntry | Kind::TermEntry => Some(Entry {
-            before: two_kids(&node.kids).0,
-            cube: None,
-        }),
-        _ => None,
-    }
 }
 
 /// The kids of a node that has two.
@@ -167,7 +135,7 @@ fn one_kid(kids: &Kids) -> u64
 }
 
 /// The kids of a node that has three.
-fn three_kids(kids: &Kids) -> (u64, u64, u64)
+pub fn three_kids(kids: &Kids) -> (u64, u64, u64)
     requires { length kids.now ≡ 3 }
     ensures { kids.now ≡ result.0 ∷ result.1 ∷ result.2 ∷ [] }
 {

@@ -16,14 +16,14 @@ use Rattle.rz_rules.specs.declared.symbols.Symbol.TheVariants as symbol
 use Rattle.rz_rules.specs.declared.symbols.TheConstants.{LETTERS}
 use Rattle.rz_rules.specs.Form.{form, kid_sorts}
 use Rattle.rz_rules.specs.Tree.{Tree, At, sort_of, tree_of, trees_in, trees_of}
-use Rattle.rz_rules.specs.Judgment.{context_of, kind_of, parts_of, statement}
+use Rattle.rz_rules.specs.Judgment.{ids_of, context_of, kind_of, parts_of, statement}
 use Rattle.rz_rules.specs.Row.{Assignment, name_of, number_of, spelled}
 use Rattle.rz_rules.specs.Text.{Mark, label_fits, starts_with, with_mark}
 use Rattle.rz_pool.specs.Pool.{Grows}
 use Rattle.rz_pool.proofs.Nodes.{KeepsTrees-Grows}
 use Rattle.rz_spell.specs.declared.text.Stack.{Stack}
 use Rattle.rz_spell.specs.Letters.{is_row_name, letter_at, name_in, tree_for}
-use Rattle.rz_spell.specs.Spelling.{CanMake, CanPut, HasSpelled, IsLive, IsMadeOf, Stands, StandsAt}
+use Rattle.rz_spell.specs.Spelling.{CanMake, CanPut, HasSpelled, IsJudgmentOver, IsLive, IsMadeOf, Stands, StandsAt}
 use Rattle.rz_spell.proofs.Stacks.{Stands-drop, Stands-grows, enough, length-Grows, top_known, top_none}
 
 pub if_some : {A : Type 0} (b : Bool) (x new : A) → (if b then Some x else None) ≡ Some new → (b ≡ true) × (x ≡ new)
@@ -36,6 +36,9 @@ module _ (nodes : List Node) (symbol : Symbol) (behind : List Symbol) (a : Assig
   marked = sym (ap (option_and_then (with_mark symbol)) can.has.marked) ∙ can.marked
 
 -- the judgments of a grown pool say what they said
+pub live-over : (nodes : List Node) (said : List Judgment) → All (IsJudgmentOver nodes) said → All (IsLive nodes) said
+live-over nodes said h = All-weaker (IsJudgmentOver nodes) (IsLive nodes) (λ says over. over.live) said h
+
 pub statements-Grows : (old new : List Node) → Grows old new → (said : List Judgment) → All (IsLive old) said → map (statement (trees_in old)) said ≡ map (statement (trees_in new)) said
 statements-Grows old new grows [] h = refl
 statements-Grows old new grows (says ∷ said) h =
@@ -52,9 +55,19 @@ statements-Grows old new grows (says ∷ said) h =
       same [] h = refl
       same (id ∷ ids) h = λ i. sym (KeepsTrees-Grows old new grows id (All-head (λ id. id < length old) id ids h)) i ∷ same ids (All-tail (λ id. id < length old) id ids h) i
 
-pub live-Grows : (old new : List Node) → Grows old new → (said : List Judgment) → All (IsLive old) said → All (IsLive new) said
-live-Grows old new grows said h =
-    All-weaker (IsLive old) (IsLive new) (λ says live k d l. omega (arith, live k d l, length-Grows old new grows)) said h
+-- what is over nodes is over them in a grown pool
+pub over-Grows : (old new : List Node) → Grows old new → (says : Judgment) → IsJudgmentOver old says → IsJudgmentOver new says
+over-Grows old new grows says h = record {
+  live = λ k d l. omega (arith, h.live k d l, length-Grows old new grows);
+  sorts = same (ids_of says) h.live ∙ h.sorts;
+} where
+  same : (ids : List ℕ) → All (λ id. id < length old) ids → map sort_of (map (tree_of new) ids) ≡ map sort_of (map (tree_of old) ids)
+  same [] h = refl
+  same (id ∷ ids) h =
+      λ i. sort_of (KeepsTrees-Grows old new grows id (All-head (λ id. id < length old) id ids h) i) ∷ same ids (All-tail (λ id. id < length old) id ids h) i
+
+pub all_over-Grows : (old new : List Node) → Grows old new → (said : List Judgment) → All (IsJudgmentOver old) said → All (IsJudgmentOver new) said
+all_over-Grows old new grows said h = All-weaker (IsJudgmentOver old) (IsJudgmentOver new) (over-Grows old new grows) said h
 
 -- with one tree more, and the same judgments
 module _ (old new : List Node) (grows : Grows old new) (symbol : Symbol) (behind : List Symbol) (a : Assignment) (before after : Stack) (letters : List (Option ℕ)) (name : Option ℕ)
@@ -64,8 +77,8 @@ module _ (old new : List Node) (grows : Grows old new) (symbol : Symbol) (behind
     marks = can.marks;
     marked = can.marked;
     trees = trees;
-    statements = same ∙ can.has.statements ∙ statements-Grows old new grows before.said.items can.has.live ∙ ap (λ (s : _). map (statement (trees_in new)) s.items) (sym said);
-    live = subst (λ (s : _). All (IsLive new) s.items) (sym said) (live-Grows old new grows before.said.items can.has.live);
+    statements = same ∙ can.has.statements ∙ statements-Grows old new grows before.said.items (live-over old before.said.items can.has.over) ∙ ap (λ (s : _). map (statement (trees_in new)) s.items) (sym said);
+    over = subst (λ (s : _). All (IsJudgmentOver new) s.items) (sym said) (all_over-Grows old new grows before.said.items can.has.over);
   }
 
 -- a letter

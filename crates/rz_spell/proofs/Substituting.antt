@@ -17,7 +17,7 @@ use Rattle.rz_rules.specs.Row.{Assignment, spelled}
 use Rattle.rz_rules.specs.Text.{Mark, same_sort, starts_with, with_mark}
 use Rattle.rz_pool.specs.Pool.{Grows}
 use Rattle.rz_spell.specs.declared.text.Stack.{Stack}
-use Rattle.rz_spell.specs.Spelling.{Answers, CanPut, HasSpelled, IsLive, IsTooHigh, SaysOnTop, Stands, StandsAt, first_of}
+use Rattle.rz_spell.specs.Spelling.{Answers, CanPut, HasSpelled, IsJudgmentOver, IsTooHigh, SaysOnTop, Stands, StandsAt, first_of}
 use Rattle.rz_spell.proofs.Stacks.{AllIndicesBelow-AreTrees, IndicesBelow-IsTree, Stands-drop, Stands-grows, enough, same_sort_is, top_known, top_none}
 use Rattle.rz_spell.proofs.Putting.{if_some, marked, with_tree}
 
@@ -167,7 +167,8 @@ module _ (nodes : List Node) (kind : JudgmentKind) (behind : List Symbol) (a : A
             (subst (λ (ts : List Tree). Stands nodes (drop (length (sorts_of kind)) before.trees.items) ts (drop (length (sorts_of kind)) can.has.marks)) (drop_one_more n T)
             (Stands-drop nodes (length (sorts_of kind)) before.trees.items T can.has.marks can.has.trees)));
         statements = (λ i. here i ∷ can.has.statements i) ∙ ap (map (statement (trees_in nodes))) (sym says.said);
-        live = subst (All (IsLive nodes)) (sym says.said) (All-cons (IsLive nodes) says.says before.said.items top.live can.has.live);
+        over = subst (All (IsJudgmentOver nodes)) (sym says.said)
+            (All-cons (IsJudgmentOver nodes) says.says before.said.items (record { live = top.live; sorts = top.sorts_are ∙ ap sorts_of (sym says.kind_is) }) can.has.over);
       }
 
   top_below : (n : ℕ) (trees : List Tree) → IndicesBelow (2 ^ 32) (tree_at trees 0) → AllIndicesBelow (2 ^ 32) (trees_of (take n (drop 1 trees))) → AllIndicesBelow (2 ^ 32) (trees_of (take (suc n) trees))

@@ -39,6 +39,11 @@ Stands nodes ids trees marks = ⊥
 abbrev pub IsLive : List Node → Judgment → Type 0
 IsLive nodes says = All (λ id. id < length nodes) (ids_of says)
 
+-- and these nodes are of the sorts of its kind
+pub record IsJudgmentOver (nodes : List Node) (says : Judgment) : Type 0 where
+  pub live : IsLive nodes says
+  pub sorts : map sort_of (map (tree_of nodes) (ids_of says)) ≡ sorts_of (kind_of says)
+
 -- the letters and the name that a text needs are there
 pub record AreLetters (nodes : List Node) (text : List Symbol) (letters : List (Option ℕ)) (name : Option ℕ) : Type 0 where
   pub count : length letters ≡ LETTERS
@@ -51,7 +56,7 @@ pub record HasSpelled (nodes : List Node) (text : List Symbol) (assignment : Ass
   pub marked : marks_of text ≡ Some marks
   pub trees : Stands nodes stack.trees.items (spelled text assignment).trees marks
   pub statements : (spelled text assignment).statements ≡ map (statement (trees_in nodes)) stack.said.items
-  pub live : All (IsLive nodes) stack.said.items
+  pub over : All (IsJudgmentOver nodes) stack.said.items
 
 -- an index of the judgments that the text spells reaches 2^32
 abbrev pub IsTooHigh : List Symbol → Assignment → Type 0

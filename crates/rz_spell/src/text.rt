@@ -14,7 +14,7 @@ ghost use Rattle.rz_rules.specs.Text.{IsText};
 ghost use Rattle.rz_rules.specs.declared.symbols.Symbol.{Symbol};
 ghost use Rattle.rz_pool.specs.Pool.{Grows, IsPool};
 ghost use Rattle.rz_spell.specs.Letters.{assignment_of, is_row_name, name_in, tree_for};
-ghost use Rattle.rz_spell.specs.Spelling.{Answers, AreLetters, CanMake, CanPut, IsLive, IsMadeOf, IsNamed, IsTooHigh, Keeps, SaysOnTop, first_of};
+ghost use Rattle.rz_spell.specs.Spelling.{Answers, AreLetters, CanMake, CanPut, IsJudgmentOver, IsMadeOf, IsNamed, IsTooHigh, Keeps, SaysOnTop, first_of};
 
 use crate::substitution;
 use rz_pool::Pool;
@@ -47,8 +47,8 @@ pub fn spell(
         (λ answer. IfSome answer
         (λ said. (spelled text.now (assignment_of pool.old.nodes letters.now name)).statements
         ≡ map (statement (trees_in pool.new.nodes)) said.items)) }
-    ensures live { IfOk result
-        (λ answer. IfSome answer (λ said. All (IsLive pool.new.nodes) said.items)) }
+    ensures over { IfOk result
+        (λ answer. IfSome answer (λ said. All (IsJudgmentOver pool.new.nodes) said.items)) }
     ensures none { IfOk result (λ answer. IfNone answer
         (IsTooHigh text.now (assignment_of pool.old.nodes letters.now name))) }
     ensures grows { Grows pool.old.nodes pool.new.nodes }

@@ -1,52 +1,65 @@
-use Rattle.std.proofs.Common.{ℕ, ◌+◌, List, Option, None, All, IsTrue, length, drop, get_or, refl, sym, ap, subst, ◌∙◌}
-use Rattle.std.specs.Prelude.{IfSome}
-use Rattle.std.proofs.lemmas.List.{drop_all, length-replicate}
-use Rattle.std.proofs.lemmas.List.Elements.{All-head, All-nil, All-replicate}
-use Rattle.rz_rules.specs.declared.symbols.Symbol.{Symbol}
-use Rattle.rz_rules.specs.declared.symbols.TheConstants.{LETTERS}
-use Rattle.rz_kernel_rows.specs.declared.find.Walk.{Walk}
-use Rattle.rz_kernel_rows.specs.Finding.{IsLive, symbol_fits}
-use Rattle.rz_spell.specs.Letters.{HasName}
-use Rattle.rz_kernel_rows.proofs.Found.{IsUnderway, all_found, answers_passed, at_start, left_at, past}
+use Rattle.std.proofs.Common.{◌≡◌, ℕ, ◌<◌, [], List, Option, All, length, map, true, true≢false, sym, ap, subst, ◌∙◌}
+use Rattle.std.specs.Prelude.{is_some, ◌==◌, if◌then◌else◌}
+use Rattle.std.specs.List.{list_all, list_any}
+use Rattle.rz_rules.specs.declared.judgments.Judgment.{Judgment}
+use Rattle.rz_rules.specs.Judgment.{ids_of, statement}
+use Rattle.rz_rules.specs.Tree.{trees_in}
+use Rattle.rz_rules.specs.Text.{same_letter}
+use Rattle.std.specs.Cmp.{first_so, second_so}
+use Rattle.std.proofs.lemmas.List.Elements.{All-nil}
+use Rattle.rz_rules.specs.Row.{Assignment, IsInstance, letters_in}
+use Rattle.rz_kernel_rows.specs.Finding.{IsLive, Remains, letters_met, meets_name}
+use Rattle.rz_spell.specs.Letters.{has_name}
+use Rattle.rz_kernel_rows.proofs.Found.{all_met, from_judgments, name_met, rest_over, start_is, symbols_fit}
 use Rattle.rz_kernel_rows.proofs.find.find.Goals as goal
+use Rattle.rz_kernel_rows.proofs.find.find.Goals.{In_ok-walk}
 
-pub loop-symbol-init : goal.loop-symbol-init
-loop-symbol-init c =
+-- each instance is what the walk has before it
+remains : (c : In_ok-walk) (a : Assignment) → IsInstance c.args.text.now a (map (statement (trees_in c.args.pool.now.nodes)) c.args.judgments.now) → Remains c.args.pool.now.nodes c.args.text.now a c.in_ok-walk.walk
+remains c a instance =
+    from_judgments c.args.pool.now.nodes c.args.text.now c.args.judgments.now c.in_ok-walk.walk (c.in_ok-walk.ensures.expected ∙ c.new.ensures.items) c.in_ok-walk.ensures.rest c.in_ok-walk.ensures.letters c.in_ok-walk.ensures.name a instance
+
+pub pass_all-requires-clause-fits : goal.pass_all-requires-clause-fits
+pass_all-requires-clause-fits c = symbols_fit c.args.text.now [] c.requires.text
+
+pub pass_all-requires-clause-walk : goal.pass_all-requires-clause-walk
+pass_all-requires-clause-walk c =
     let ns = c.args.pool.now.nodes in
-    let walk : Walk = record { expected = c.new.result; rest = c.args.judgments; finding = c.in_ok-nothing_found.field-0 } in
-    let letters = c.in_ok-nothing_found.ensures.letters in
-    at_start ns c.args.text.now c.args.judgments.now walk c.requires.text
-    (record {
-      expected = subst (All (IsLive ns)) (sym c.new.ensures.items) (All-nil (IsLive ns));
-      rest = c.requires.there;
-      finding = record {
-        count = ap length letters ∙ length-replicate {A = Option ℕ} LETTERS None;
-        live = subst (All (IsLive ns)) (sym letters) (All-replicate (IsLive ns) LETTERS None tt);
-        named = subst (λ (n : Option ℕ). IfSome n (HasName ns)) (sym c.in_ok-nothing_found.ensures.name) tt;
-      };
-    })
-    c.new.ensures.items refl letters c.in_ok-nothing_found.ensures.name
+    let facts = c.in_ok-walk.ensures in
+    start_is ns c.in_ok-walk.walk (subst (All (IsLive ns)) (sym (facts.expected ∙ c.new.ensures.items)) (All-nil (IsLive ns)))
+    (subst (λ (js : List Judgment). All (λ says. All (λ id. id < length ns) (ids_of says)) js) (sym facts.rest) c.requires.there) facts.letters facts.name
 
-pub pass-requires-clause-fits : goal.pass-requires-clause-fits
-pass-requires-clause-fits c =
-    let P : Symbol → Type 0 = λ symbol. IsTrue (symbol_fits symbol) in
-    let text = c.args.text.now in
-    let i = c.loop-symbol.symbol-index in
-    All-head P (get_or text i _) (drop (i + 1) text) (subst (All P) (left_at text i _ c.loop-symbol-test.true) c.loop-symbol.invariant.fits)
+pub returns-then-not-branch-clause-none : goal.returns-then-not-branch-clause-none
+returns-then-not-branch-clause-none c a instance =
+    let at = (goal.at.returns-then-not-branch-clause-none c).In_ok-walk in
+    (rw c.if-not-branch.true at c.in_ok-pass_all.ensures.refuses) a (remains at a instance)
 
-pub loop-symbol-preserved : goal.loop-symbol-preserved
-loop-symbol-preserved c =
-    let ns = c.args.pool.now.nodes in
-    let text = c.args.text.now in
-    let i = c.loop-symbol.symbol-index in
-    past ns text c.args.judgments.now (get_or text i _) (drop (i + 1) text) c.loop-symbol.walk c.pass.new.walk
-    (answers_passed ns (get_or text i _) c.loop-symbol.walk c.pass.new.walk c.in_ok-pass.field-0 c.if-not-branch.false c.in_ok-pass.ensures.step)
-    c.in_ok-pass.ensures.walk
-    (subst (λ (left : List Symbol). IsUnderway ns text c.args.judgments.now left c.loop-symbol.walk) (left_at text i _ c.loop-symbol-test.true) c.loop-symbol.invariant)
+pub returns-then-is_empty-clause-finds : goal.returns-then-is_empty-clause-finds
+returns-then-is_empty-clause-finds c a instance =
+    let at = (goal.at.returns-then-is_empty-clause-finds c).In_ok-walk in
+    let passed = rw c.if-not-branch.false at c.in_ok-pass_all.ensures.passes in
+    (passed.remains a (remains at a instance)).found
 
 pub returns-then-is_empty-clause-letters : goal.returns-then-is_empty-clause-letters
-returns-then-is_empty-clause-letters c =
+returns-then-is_empty-clause-letters c determined =
     let text = c.args.text.now in
-    all_found c.args.pool.now.nodes text c.args.judgments.now c.loop-symbol.walk
-    (subst (λ (left : List Symbol). IsUnderway c.args.pool.now.nodes text c.args.judgments.now left c.loop-symbol.walk)
-    (drop_all c.loop-symbol.symbol-index text c.loop-symbol-test.false) c.loop-symbol.invariant)
+    let at = (goal.at.returns-then-is_empty-clause-letters c).In_ok-walk in
+    let passed = rw c.if-not-branch.false at c.in_ok-pass_all.ensures.passes in
+    all_met c.args.pool.now.nodes text c.in_ok-walk.walk c.pass_all.new.walk passed (letters_in text)
+    (subst (λ (es : List (Option ℕ)). list_all (λ letter. list_any (same_letter letter) (letters_met (map is_some es) text)) (letters_in text) ≡ true) (sym (c.in_ok-walk.ensures.expected ∙ c.new.ensures.items))
+    (first_so _ (if has_name text then meets_name [] text else true) determined))
+
+pub returns-else-is_empty-clause-none : goal.returns-else-is_empty-clause-none
+returns-else-is_empty-clause-none c a instance =
+    let at = (goal.at.returns-else-is_empty-clause-none c).In_ok-walk in
+    let passed = rw c.if-not-branch.false at c.in_ok-pass_all.ensures.passes in
+    let over = rest_over c.args.pool.now.nodes c.pass_all.new.walk a (passed.remains a (remains at a instance)) in
+    let yes = c.is_empty.ensures ∙ ap (λ (js : List Judgment). length js == 0) over in
+    absurd (true≢false (sym yes ∙ c.if-is_empty.false))
+
+pub returns-then-is_empty-clause-name : goal.returns-then-is_empty-clause-name
+returns-then-is_empty-clause-name c determined named =
+    let text = c.args.text.now in
+    let passed = rw c.if-not-branch.false at c.in_ok-pass_all.ensures.passes in
+    let met = name_met (has_name text) (meets_name [] text) named (second_so _ (if has_name text then meets_name [] text else true) determined) in
+    passed.met_name (subst (λ (es : List (Option ℕ)). meets_name (map is_some es) text ≡ true) (sym (c.in_ok-walk.ensures.expected ∙ c.new.ensures.items)) met)

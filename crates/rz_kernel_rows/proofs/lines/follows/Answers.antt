@@ -1,13 +1,12 @@
-use Rattle.std.proofs.Common.{◌≡◌, map, List, true, All, sym, subst, ◌∙◌}
+use Rattle.std.proofs.Common.{◌≡◌, map, List, true, subst}
 use Rattle.std.specs.Prelude.{◌↔◌, IfOk}
-use Rattle.std.proofs.lemmas.List.Elements.{All-map, All-push}
+use Rattle.std.proofs.lemmas.List.Elements.{All-map}
 use Rattle.rz_rules.specs.declared.judgments.Judgment.{Judgment}
 use Rattle.rz_rules.specs.Derivation.{IsScoped}
 use Rattle.rz_rules.specs.Judgment.{context_of, kind_of, parts_of, statement}
-use Rattle.rz_rules.specs.Table.{rule_of}
 use Rattle.rz_rules.specs.Tree.{tree_at, trees_in}
 use Rattle.rz_rules.specs.declared.nodes.Node.{Node}
-use Rattle.rz_kernel_rows.specs.Line.{IsInstanceOf, IsJudgmentOver, said}
+use Rattle.rz_kernel_rows.specs.Line.{IsJudgmentOver, said}
 use Rattle.rz_kernel_rows.proofs.Following.{no_premises, premises_low, step_iff}
 use Rattle.rz_kernel_rows.proofs.Instances.{IsStatement-over}
 use Rattle.rz_kernel_rows.proofs.Spelled.{by_iff}
@@ -19,30 +18,27 @@ returns-in_default-clause-follows c =
     let line = c.args.line.now in (
       λ wrong. absurd cc,
       λ follows. absurd (no_premises (trees_in ns) line.row line.number (said c.args.lines.now) line.from (statement (trees_in ns) line.says)
-          (rw (c.in_default.is, c.as_slice.ensures) at c.in_ok-judgments.ensures.none) follows),
+          (rw (c.in_default.is, c.as_slice.ensures) at c.in_ok-premises.ensures.none) follows),
     )
 
-pub applies-requires : goal.applies-requires
-applies-requires c =
+pub applies-requires-clause-premises : goal.applies-requires-clause-premises
+applies-requires-clause-premises c =
     let ns = c.args.pool.now.nodes in
     let line = c.args.line.now in
     let P : Judgment → Type 0 = IsJudgmentOver ns in
-    let named = rw (c.in-Some.is, c.as_slice.ensures) at c.in_ok-judgments.ensures.found in
-    let low = premises_low P (said c.args.lines.now) c.in-Some.judgments.items line.from (All-map P (λ line. line.says) c.args.lines.now c.requires.lines) named in
-    subst (λ (js : List Judgment). All P js) (sym (c.deref.ensures.value ∙ c.in_ok-push.ensures.items)) (All-push P c.in-Some.judgments.items line.says low c.requires.line)
+    let named = rw (c.in-Some.is, c.as_slice.ensures) at c.in_ok-premises.ensures.found in
+    premises_low P (said c.args.lines.now) c.in-Some.premises.items line.from (All-map P (λ line. line.says) c.args.lines.now c.requires.lines) named
 
 pub returns-then-not-branch-clause-follows : goal.returns-then-not-branch-clause-follows
 returns-then-not-branch-clause-follows c =
     let ns = c.args.pool.now.nodes in
     let line = c.args.line.now in
-    let named = rw (c.in-Some.is, c.as_slice.ensures) at c.in_ok-judgments.ensures.found in
-    let js = c.deref.ensures.value ∙ c.in_ok-push.ensures.items in
+    let named = rw (c.in-Some.is, c.as_slice.ensures) at c.in_ok-premises.ensures.found in
     let trees = IsStatement-over ns c.in_ok-applies.ensures.pool.forms line.says c.requires.line in
-    let step = step_iff (trees_in ns) line.row line.number line.says (said c.args.lines.now) c.in-Some.judgments.items line.from c.if-line-ne0.false trees named in (
+    let step = step_iff (trees_in ns) line.row line.number line.says (said c.args.lines.now) c.in-Some.premises.items line.from trees named in (
       λ wrong. absurd cc,
       λ follows.
-          let instance = (step.1 follows).0 in
-          let yes = c.in_ok-applies.ensures.applies.1 (subst (λ (premises : List Judgment). IsInstanceOf (rule_of line.row) (map (statement (trees_in ns)) premises)) (sym js) instance) in
+          let yes = c.in_ok-applies.ensures.applies.1 (step.1 follows).0 in
           let no = c.if-not-branch.true in
           absurd cc,
     )
@@ -52,10 +48,9 @@ returns-clause-follows c =
     let ns = c.args.pool.now.nodes in
     let line = c.args.line.now in
     let r = c.is_scoped.result in
-    let named = rw (c.in-Some.is, c.as_slice.ensures) at c.in_ok-judgments.ensures.found in
-    let js = c.deref.ensures.value ∙ c.in_ok-push.ensures.items in
+    let named = rw (c.in-Some.is, c.as_slice.ensures) at c.in_ok-premises.ensures.found in
     let trees = IsStatement-over ns c.in_ok-applies.ensures.pool.forms line.says c.requires.line in
-    let step = step_iff (trees_in ns) line.row line.number line.says (said c.args.lines.now) c.in-Some.judgments.items line.from c.if-line-ne0.false trees named in
-    let instance = subst (λ (premises : List Judgment). IsInstanceOf (rule_of line.row) (map (statement (trees_in ns)) premises)) js (c.in_ok-applies.ensures.applies.0 c.if-not-branch.false) in
+    let step = step_iff (trees_in ns) line.row line.number line.says (said c.args.lines.now) c.in-Some.premises.items line.from trees named in
+    let applies = c.in_ok-applies.ensures.applies.0 c.if-not-branch.false in
     let scoped = subst (λ (nodes : List Node). IfOk r (λ answer. (answer ≡ true) ↔ IsScoped (kind_of line.says) (tree_at (trees_in nodes) (context_of line.says)) (map (tree_at (trees_in nodes)) (parts_of line.says)))) c.in_ok-applies.ensures.nodes c.is_scoped.ensures.scoped in
-    by_iff r (λ scoped. step.0 (instance, scoped), λ follows. (step.1 follows).1) scoped
+    by_iff r (λ scoped. step.0 (applies, scoped), λ follows. (step.1 follows).1) scoped

@@ -7,15 +7,15 @@ use Rattle.rz_rules.specs.Table.{rule_of}
 use Rattle.rz_spell.specs.Letters.{IsFound, assignment_of}
 use Rattle.rz_kernel_rows.specs.Line.{letters_of}
 use Rattle.rz_kernel_rows.proofs.Spelled.{by_iff, conditions_found, letters_are, met_iff, not_spelled, restored}
-use Rattle.rz_kernel_rows.proofs.lines.applies.Goals as goal
+use Rattle.rz_kernel_rows.proofs.lines.is_instance.Goals as goal
 
 pub is_spelled-spelled-requires-clause-letters : goal.is_spelled-spelled-requires-clause-letters
 is_spelled-spelled-requires-clause-letters c =
     let facts = rw (c.in-Some.is, c.text.ensures) at c.in_ok-finding.ensures in
     letters_are c.args.pool.now.nodes c.args.row c.in-Some.finding.letters.items c.in-Some.finding.name facts.there facts.letters facts.name
 
-pub returns-then-not-branch-clause-applies : goal.returns-then-not-branch-clause-applies
-returns-then-not-branch-clause-applies c =
+pub returns-then-not-branch-clause-instance : goal.returns-then-not-branch-clause-instance
+returns-then-not-branch-clause-instance c =
     let ns = c.args.pool.now.nodes in
     let facts = rw (c.in-Some.is, c.text.ensures) at c.in_ok-finding.ensures in
     let are = letters_are ns c.args.row c.in-Some.finding.letters.items c.in-Some.finding.name facts.there facts.letters facts.name in (
@@ -37,8 +37,8 @@ are_met-requires c =
           (conditions_found ns c.args.row c.in-Some.finding.letters.items c.in-Some.finding.name are)));
     }
 
-pub returns-clause-applies : goal.returns-clause-applies
-returns-clause-applies c =
+pub returns-clause-instance : goal.returns-clause-instance
+returns-clause-instance c =
     let ns = c.args.pool.now.nodes in
     let r = c.are_met.result in
     let facts = rw (c.in-Some.is, c.text.ensures) at c.in_ok-finding.ensures in

@@ -5,12 +5,12 @@ use Rattle.rz_kernel_rows.specs.Scope.{AreCubes}
 use Rattle.rz_kernel_rows.proofs.points.cubes_of.Given as goal
 
 -- the cubes so far, and those of the context that is left
-abbrev pub invariant-loop-entry : goal.invariant-loop-entry
-invariant-loop-entry l = record {
+abbrev pub invariant-loop-last : goal.invariant-loop-last
+invariant-loop-last l = record {
   there : l.at < length l.pool.nodes;
   live : AreCubes l.pool.nodes l.cubes.items;
   cubes : map (tree_of l.pool.nodes) l.cubes.items ++ cubes_of (tree_of l.pool.nodes l.at) ≡ cubes_of (tree_of l.pool.nodes l.context);
 }
 
-abbrev pub decreases-loop-entry : goal.decreases-loop-entry
-decreases-loop-entry l = l.at
+abbrev pub decreases-loop-last : goal.decreases-loop-last
+decreases-loop-last l = l.at
