@@ -51,15 +51,6 @@ module _ (ns : List Node) (places : List ℕ) (low : All (λ p. p < length ns) p
     label = h.label;
   })
 
-  pub form_in_file : HasForm (trees_in ns) (length ns) placed → HasForm (map (tree_of ns) places) (length (map (tree_of ns) places)) node
-  form_in_file g =
-      let h = subst (HasForm (trees_in ns) (length ns)) moved_is g in
-      record {
-        kids = subst (λ (k : ℕ). All (λ id. id < k) node.kids) (sym (length-map places (tree_of ns))) there;
-        sorts = ap (map sort_of) trees ∙ h.sorts;
-        label = h.label;
-      }
-
 -- what was said stays
 pub same_trees : (ns ms : List Node) → Grows ns ms → (ids : List ℕ) → All (λ id. id < length ns) ids → map (tree_of ms) ids ≡ map (tree_of ns) ids
 same_trees ns ms grows ids low = ap (λ (ns : List Node). map (tree_of ns) ids) grows.is ∙ trees_of-append ns grows.added ids low
@@ -95,11 +86,6 @@ pub said_more : (ns : List Node) (lines : List Line) (line : Line) → statement
 said_more ns lines line =
     ap (map (statement (trees_in ns))) (map-append (λ l. l.says) lines (line ∷ []))
     ∙ map-append (statement (trees_in ns)) (said lines) (line.says ∷ [])
-
--- one claim more
-pub claims_more : (statements : List Statement) (claims : List (List ℕ × ℕ)) (claim : List ℕ × ℕ)
-    → claims_of statements (claims ++ claim ∷ []) ≡ claims_of statements claims ++ record { name = claim.0; says = statement_at statements claim.1 } ∷ []
-claims_more statements claims claim = map-append (λ (claim : List ℕ × ℕ). record { name = claim.0; says = statement_at statements claim.1 }) claims (claim ∷ [])
 
 pub claims_count : (statements : List Statement) (claims : List (List ℕ × ℕ)) → length (claims_of statements claims) ≡ length claims
 claims_count statements claims = length-map claims (λ (claim : List ℕ × ℕ). record { name = claim.0; says = statement_at statements claim.1 })

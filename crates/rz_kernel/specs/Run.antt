@@ -1,9 +1,13 @@
--- A run over the lines of a file.
-use Rattle.std.specs.Prelude.{◌≡◌, ℕ, ◌+◌, List, ◌++◌, length, map, take}
-use Rattle.rz_rules.specs.File.{Item, FileState, empty_state, words_of, line_of, lines, lines_of, AllFit, AllFollow, state_after, BeginsFile}
+-- A run over the items of a file.
+use Rattle.std.specs.Prelude.{◌≡◌, ℕ, List, length, take}
+use Rattle.rz_rules.specs.File.{Item, FileState, empty_state, lines_of, AllFit, AllFollow, state_after, BeginsFile}
+use Rattle.rz_drv.specs.declared.faults.DrvFault.{DrvFault}
+use Rattle.rz_drv.specs.declared.faults.DrvFault.TheVariants as faults
+use Rattle.rz_drv.specs.declared.reading.Reader.{Reader}
+use Rattle.rz_drv.specs.Reading.{HasRead}
 use Rattle.rz_kernel.specs.declared.answer.KernelAnswer.{KernelAnswer}
 use Rattle.rz_kernel.specs.declared.answer.KernelAnswer.TheVariants.{Yes, Malformed, BadRow}
-use Rattle.rz_kernel.specs.Answer.{IsFirstBad}
+use Rattle.rz_kernel.specs.Answer.{IsFirstBad, KernelSays}
 
 -- what is right to answer on the bytes that are these lines together
 abbrev pub LinesSay : List (List ℕ) → KernelAnswer → Type 0
@@ -13,15 +17,14 @@ LinesSay all (Yes n) =
 LinesSay all (Malformed line) = IsFirstBad all line × (BeginsFile (take line all) → ⊥)
 LinesSay all (BadRow line) = IsFirstBad all line × BeginsFile (take line all)
 
--- the lines that items take
-abbrev pub item_lines : List Item → List (List ℕ)
-item_lines items = map (λ item. line_of (words_of item)) items
+-- what is right to answer where reading failed
+abbrev pub FaultSays : List ℕ → DrvFault → Type 0
+FaultSays bytes (faults.Malformed line) = KernelSays bytes (Malformed line)
+FaultSays bytes faults.OutOfMemory = Unit {0}
 
--- behind the header so many lines were read as items, which fit and follow, and the rest of the bytes is left
-pub record IsRead (bytes rest : List ℕ) (known : FileState) (number : ℕ) : Type 0 where
+-- the reader has read items, which follow, and this is what they give
+pub record HasTaken (bytes : List ℕ) (reader : Reader) (known : FileState) : Type 0 where
   pub items : List Item
-  pub fit : AllFit empty_state items
+  pub read : HasRead bytes items reader
   pub follow : AllFollow empty_state items
   pub known_is : known ≡ state_after empty_state items
-  pub split : lines bytes ≡ item_lines items ++ lines rest
-  pub count : number ≡ length items + 2

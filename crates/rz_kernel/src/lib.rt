@@ -1,13 +1,11 @@
 //! The kernel: says of a derivation file whether it is one.
 //!
-//! It reads the file line by line, keeps each tree once, and checks each step against the text of its row.
+//! It reads the file item by item, keeps each tree once, and checks each step by its row.
 #![tactic(auto)]
 
 mod answer;
 mod file;
-mod items;
-mod line;
-mod numbers;
+mod places;
 mod state;
 
 pub use answer::KernelAnswer;
@@ -15,5 +13,7 @@ pub use file::kernel;
 
 #[cfg(test)]
 mod row_tests;
+#[cfg(test)]
+mod structural_tests;
 #[cfg(test)]
 mod tests;

@@ -40,7 +40,7 @@ const FIRST_STEPS: &[&str] = &[
 
 /// What a case shows, its nodes behind the first ones, its steps behind the first ones, and whether all of these follow,
 /// or all but the last.
-type Case = (
+pub type Case = (
     &'static str,
     &'static [&'static str],
     &'static [&'static str],
@@ -427,25 +427,31 @@ fn add_steps(
     Ok(())
 }
 
+/// What the kernel says of a case's file, and what it is to say.
+pub fn answer_to(alloc: Global, case: &Case) -> Result<(KernelAnswer, KernelAnswer), Fail> {
+    let (_, nodes, steps, is_bad) = case;
+    let mut bytes = Vec::new(alloc);
+    let mut names = Vec::new(alloc);
+    bytes.extend_from_slice(b"rzk-derivation 1\n")?;
+    add_nodes(&mut bytes, alloc, &mut names, NODES)?;
+    add_nodes(&mut bytes, alloc, &mut names, nodes)?;
+    add_steps(&mut bytes, alloc, &names, FIRST_STEPS)?;
+    add_steps(&mut bytes, alloc, &names, steps)?;
+    let lines = 1 + names.len() + FIRST_STEPS.len() + steps.len();
+    bytes.extend_from_slice(b"end\n")?;
+    let wanted = if *is_bad {
+        KernelAnswer::BadRow(lines as u64)
+    } else {
+        KernelAnswer::Yes(0)
+    };
+    Ok((kernel(alloc, &bytes)?, wanted))
+}
+
 #[test]
 fn rows_and_their_conditions(rt: HostRuntime) -> Result<(), Fail> {
-    let alloc = rt.alloc();
-    for (shows, nodes, steps, is_bad) in CASES {
-        let mut bytes = Vec::new(alloc);
-        let mut names = Vec::new(alloc);
-        bytes.extend_from_slice(b"rzk-derivation 1\n")?;
-        add_nodes(&mut bytes, alloc, &mut names, NODES)?;
-        add_nodes(&mut bytes, alloc, &mut names, nodes)?;
-        add_steps(&mut bytes, alloc, &names, FIRST_STEPS)?;
-        add_steps(&mut bytes, alloc, &names, steps)?;
-        let lines = 1 + names.len() + FIRST_STEPS.len() + steps.len();
-        bytes.extend_from_slice(b"end\n")?;
-        let want = if *is_bad {
-            KernelAnswer::BadRow(lines as u64)
-        } else {
-            KernelAnswer::Yes(0)
-        };
-        assert_eq!(rt; kernel(alloc, &bytes)?, want, "{}", shows);
+    for case in CASES {
+        let (answer, wanted) = answer_to(rt.alloc(), case)?;
+        assert_eq!(rt; answer, wanted, "{}", case.0);
     }
     Ok(())
 }

@@ -1,12 +1,17 @@
 //! What is known while a file is read.
 
-ghost use Rattle.std.specs.Prelude.{◌≡◌, ◌<◌, ◌≤◌, ◌↔◌, length, All, IsTrue, IfSome, IfNone, OnOk, map, slice_get, slice_index};
-ghost use Rattle.rz_rules.specs.Tree.{HasForm, sort_of, tree_of, trees_in};
-ghost use Rattle.rz_rules.specs.File.{empty_state};
+ghost use Rattle.std.specs.Prelude.{◌≡◌, ◌↔◌, length, IsTrue, IfOk, OnOk};
+ghost use Rattle.std.specs.Bool.{OnTrue};
+ghost use Rattle.rz_rules.specs.Tree.{HasForm, trees_in};
+ghost use Rattle.rz_rules.specs.File.{NodeItem, StepItem, NodeFits, StepFits, Fits, ItemFollows, empty_state, extended};
+ghost use Rattle.rz_drv.specs.Items.{item_of};
 ghost use Rattle.rz_kernel.specs.State.{file_state, with_tree, IsKernelState};
 
+use crate::places::{judgment_at, kids_at};
+use rz_drv::Item;
+use rz_kernel_rows::follows;
 use rz_pool::{HashKey, Pool};
-use rz_rules::{Kids, Line, Name, Node, OutOfMemory, Sort};
+use rz_rules::{Line, Name, Node, OutOfMemory};
 use std::alloc::Global;
 
 /// What the lines so far give.
@@ -47,52 +52,63 @@ impl KernelState {
         self.places.push(place)?;
         Ok(())
     }
-}
 
-/// The ids in the pool of these nodes of the file, at most seven; `None` where one isn't there or they are more.
-pub fn places_of(places: &[u64], ids: &[u64]) -> Option<Kids>
-    ensures found { IfSome result (λ kids. kids ≡ map (slice_index places.now) ids.now) }
-    ensures there { IfSome result (λ kids. All (λ id. id < length places.now) ids.now) }
-    ensures few { IfSome result (λ kids. length ids.now ≤ 7) }
-    ensures none { IfNone result (All (λ id. id < length places.now) ids.now → 7 < length ids.now) }
-{
-    if ids.len() > 7 {
-        return None;
-    }
-    let mut kids = Kids::new();
-    for id in ids {
-        kids.push(number_at(places, *id)?);
-    }
-    Some(kids)
-}
-
-/// The number at a place; `None` where there is none.
-fn number_at(numbers: &[u64], place: u64) -> Option<u64>
-    ensures { result ≡ slice_get numbers.now place }
-{
-    numbers.get(place as usize).copied()
-}
-
-/// Whether the trees of these ids have these sorts, one by one.
-pub fn have_sorts(pool: &Pool, ids: &[u64], sorts: &[Sort]) -> bool
-    requires { All (λ id. id < length pool.now.nodes) ids.now }
-    ensures { IsTrue result ↔ (map sort_of (map (tree_of pool.now.nodes) ids.now) ≡ sorts.now) }
-{
-    if ids.len() != sorts.len() {
-        return false;
-    }
-    for (i, id) in ids.iter().enumerate() {
-        if !has_sort(pool, *id, sorts[i]) {
-            return false;
+    /// Takes the next item of the file, which fits; `false` where it is a step that doesn't follow.
+    pub fn take(&mut self, alloc: Global, item: Item) -> Result<bool, OutOfMemory>
+        requires state { IsKernelState self.old }
+        requires fits { Fits (file_state self.old) (item_of item) }
+        ensures follows { IfOk result (λ good. IsTrue good
+            ↔ ItemFollows (file_state self.old) (item_of item)) }
+        ensures known { IfOk result (λ good. OnTrue good
+            (file_state self.new ≡ extended (file_state self.old) (item_of item))) }
+        ensures state { OnOk result (IsKernelState self.new) }
+    {
+        match item {
+            Item::Node(node) => self.take_node(node)?,
+            Item::Step(line) => return self.take_step(alloc, line),
+            Item::Claim(name, step) => self.claims.push((name, step))?,
         }
+        Ok(true)
     }
-    true
-}
 
-/// Whether the tree of an id has this sort.
-fn has_sort(pool: &Pool, id: u64, sort: Sort) -> bool
-    requires { id < length pool.now.nodes }
-    ensures { IsTrue result ↔ (sort_of (tree_of pool.now.nodes id) ≡ sort) }
-{
-    pool.node(id).kind.form().sort == sort
+    /// Takes a node of the file.
+    fn take_node(&mut self, node: Node) -> Result<(), OutOfMemory>
+        requires state { IsKernelState self.old }
+        requires fits { NodeFits (file_state self.old) node }
+        ensures known { OnOk result (file_state self.new
+            ≡ extended (file_state self.old) (NodeItem node)) }
+        ensures state { OnOk result (IsKernelState self.new) }
+    {
+        let kids = kids_at(&self.places, node.kids.as_slice());
+        self.add_node(Node {
+            kind: node.kind,
+            number: node.number,
+            name: node.name,
+            kids,
+        })
+    }
+
+    /// Takes a step of the file; `false` where it doesn't follow.
+    fn take_step(&mut self, alloc: Global, line: Line) -> Result<bool, OutOfMemory>
+        requires state { IsKernelState self.old }
+        requires fits { StepFits (file_state self.old) line }
+        ensures follows { IfOk result (λ good. IsTrue good
+            ↔ ItemFollows (file_state self.old) (StepItem line)) }
+        ensures known { IfOk result (λ good. OnTrue good
+            (file_state self.new ≡ extended (file_state self.old) (StepItem line))) }
+        ensures state { OnOk result (IsKernelState self.new) }
+    {
+        let says = judgment_at(&self.places, line.says);
+        let placed = Line {
+            row: line.row,
+            number: line.number,
+            says,
+            from: line.from,
+        };
+        if !follows(alloc, &mut self.pool, &self.lines, &placed)? {
+            return Ok(false);
+        }
+        self.lines.push(placed)?;
+        Ok(true)
+    }
 }
