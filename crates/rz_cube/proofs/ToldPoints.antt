@@ -1,0 +1,206 @@
+-- What is told of points by their ids.
+use Rattle.std.proofs.Common.{◌≡◌, ℕ, suc, ◌<◌, Bool, true, false, cond, List, [], ◌∷◌, ◌++◌, inl, inr, ◌⊎◌, length, get_or, map, take, drop, nat_eq, All, Option, Some, None, refl, sym, ap, subst, ◌∙◌, arith}
+use Rattle.std.specs.Prelude.{IsSome, slice_get, option_map, option_and_then}
+use Rattle.std.specs.Cmp.{unsigned_Decides}
+use Rattle.std.proofs.lemmas.List.{nil_from_length}
+use Rattle.rz_rules.specs.declared.kinds.Kind.{Kind}
+use Rattle.rz_rules.specs.declared.kinds.Kind.TheVariants.{PointVariable, OnlyPoint, Zero, One, PointPair, PointLeft, PointRight}
+use Rattle.rz_rules.specs.declared.nodes.Node.{Node}
+use Rattle.rz_rules.specs.Form.{form}
+use Rattle.rz_rules.specs.Tree.{Tree, HasForm, sort_of, tree_of, tree_over, trees_in}
+use Rattle.rz_rules.specs.Cube.{Binders, binders_of, cubes_of, cube_one, cube_two, product, left_part, right_part}
+use Rattle.rz_rules.specs.Tope.{cube_of}
+use Rattle.rz_rules.specs.declared.coordinates.Coord.TheVariants as coordinate
+use Rattle.rz_rules.specs.Coordinate.{coordinates, coordinates_of_variable, left_width}
+use Rattle.rz_pool.specs.Pool.{Grows}
+use Rattle.rz_pool.proofs.Nodes.{slice_get-front, length-Grows, KeepsTrees-Grows}
+use Rattle.rz_cube.specs.declared.points.Points.{Points}
+use Rattle.rz_cube.specs.declared.points.ToldPoint.{ToldPoint}
+use Rattle.rz_cube.specs.Point.{binders_at, IsCubeAt, AreCubes, IsCubeTold}
+use Rattle.rz_cube.specs.Told.{told_of, IsPoints, IsTold, Tells, TellsKids, TellsOver}
+use Rattle.rz_cube.proofs.ListPlaces.{slice_get-map, slice_get_is}
+use Rattle.rz_cube.proofs.NodeTrees.{tree_with, kids_as, tree_as}
+
+-- ---- growth of the pool
+
+module _ (ns ms : List Node) (grows : Grows ns ms) where
+  pub same_tree : (id : ℕ) → id < length ns → tree_of ms id ≡ tree_of ns id
+  same_tree id lt = KeepsTrees-Grows ns ms grows id lt
+
+  pub same_trees : (ids : List ℕ) → All (λ id. id < length ns) ids → map (tree_of ms) ids ≡ map (tree_of ns) ids
+  same_trees [] low = refl
+  same_trees (id ∷ ids) low =
+      let first : tree_of ms id ≡ tree_of ns id = same_tree id (low 0 0 (omega arith)) in
+      let rest : map (tree_of ms) ids ≡ map (tree_of ns) ids = same_trees ids (λ k d lt. low (suc k) d (omega arith)) in
+      cc
+
+  pub same_entries : (ids : List ℕ) → AreCubes ns ids → map (tree_of ms) ids ≡ map (tree_of ns) ids
+  same_entries ids cubes = same_trees ids (λ k d l. (cubes k d l).0)
+
+  pub IsCubeAt-Grows : (id : ℕ) → IsCubeAt ns id → IsCubeAt ms id
+  IsCubeAt-Grows id cube = (omega (arith, cube.0, length-Grows ns ms grows), ap sort_of (same_tree id cube.0) ∙ cube.1)
+
+  pub AreCubes-Grows : (ids : List ℕ) → AreCubes ns ids → AreCubes ms ids
+  AreCubes-Grows ids cubes k d lt = IsCubeAt-Grows (get_or ids k d) (cubes k d lt)
+
+  pub IsCubeTold-Grows : (cube : Option Tree) (told : Option ℕ) → IsCubeTold ns cube told → IsCubeTold ms cube told
+  IsCubeTold-Grows cube None h = record { there = tt; is = h.is }
+  IsCubeTold-Grows cube (Some id) h = record { there = IsCubeAt-Grows id h.there; is = h.is ∙ ap (λ t. Some t) (sym (same_tree id h.there.0)) }
+
+  pub IsPoints-Grows : (points : Points) → IsPoints ns points → IsPoints ms points
+  IsPoints-Grows points known = record {
+    there = omega (arith, known.there, length-Grows ns ms grows);
+    two = same_tree points.interval known.there ∙ known.two;
+  }
+
+  -- what is said of a point stays
+  pub at_point-Grows : {X : Type 0} (of : Binders → Tree → X) (entries : List ℕ) (id : ℕ) → AreCubes ns entries → id < length ns
+      → of (binders_at ms entries) (tree_of ms id) ≡ of (binders_at ns entries) (tree_of ns id)
+  at_point-Grows of entries id cubes lt = λ i. of (record { cubes = same_entries entries cubes i }) (same_tree id lt i)
+
+  pub IsTold-Grows : (entries : List ℕ) (id : ℕ) (told : ToldPoint) → AreCubes ns entries → IsTold ns entries id told → IsTold ms entries id told
+  IsTold-Grows entries id told are is = record {
+    live = omega (arith, is.live, length-Grows ns ms grows);
+    cube = subst (λ (c : Option Tree). IsCubeTold ms c told.cube) (sym (at_point-Grows cube_of entries id are is.live))
+        (IsCubeTold-Grows (cube_of (binders_at ns entries) (tree_of ns id)) told.cube is.cube);
+    list = is.list ∙ sym (at_point-Grows coordinates entries id are is.live);
+  }
+
+  pub Tells-Grows : (entries : List ℕ) (points : Points) (id : ℕ) → AreCubes ns entries → Tells ns entries points id → Tells ms entries points id
+  Tells-Grows entries points id are told = (told.0, told.1, IsTold-Grows entries id told.0 are told.2)
+
+  -- an old id has its old node
+  pub old_node : (id : ℕ) (node : Node) → id < length ns → slice_get ms id ≡ Some node → slice_get ns id ≡ Some node
+  old_node id node lt at = slice_get-front ns grows.added id node lt (sym (ap (λ (ns : List Node). slice_get ns id) grows.is) ∙ at)
+
+  pub TellsKids-Grows : (entries : List ℕ) (points : Points) (id : ℕ) → id < length ns → AreCubes ns entries → TellsKids ns entries points id → TellsKids ms entries points id
+  TellsKids-Grows entries points id lt are told node at k d l = Tells-Grows entries points (get_or node.kids k d) are (told node (old_node id node lt at) k d l)
+
+-- ---- cubes by their ids
+
+-- the cube of an entry
+pub entry_told : (ns : List Node) (entries : List ℕ) (index : ℕ) → AreCubes ns entries → IsCubeTold ns (slice_get (map (tree_of ns) entries) index) (slice_get entries index)
+entry_told ns entries index live = told (slice_get entries index) refl where
+  told : (o : Option ℕ) → slice_get entries index ≡ o → IsCubeTold ns (slice_get (map (tree_of ns) entries) index) o
+  told None e = record { there = tt; is = slice_get-map (tree_of ns) entries index ∙ ap (option_map (tree_of ns)) e }
+  told (Some id) e =
+      let there = slice_get_is entries index id id e in
+      record { there = subst (IsCubeAt ns) there.1 (live index id there.0); is = slice_get-map (tree_of ns) entries index ∙ ap (option_map (tree_of ns)) e }
+
+-- ---- points by their nodes
+
+-- what holds of the kids of a node that has one or two
+pub all_one : (P : ℕ → Type 0) (a : ℕ) (ids : List ℕ) → ids ≡ a ∷ [] → All P ids → P a
+all_one P a ids are h = subst (λ (xs : List ℕ). All P xs) are h 0 0 (omega arith)
+
+pub all_two : (P : ℕ → Type 0) (a b : ℕ) (ids : List ℕ) → ids ≡ a ∷ b ∷ [] → All P ids → P a × P b
+all_two P a b ids are h =
+    let all = subst (λ (xs : List ℕ). All P xs) are h in
+    (all 0 0 (omega arith), all 1 0 (omega arith))
+
+-- a node of a kind without kids
+pub childless : (ns : List Node) (id : ℕ) (n : Node) → tree_of ns id ≡ tree_over (trees_in ns) n → HasForm (trees_in ns) id n
+    → (kind : Kind) → n.kind ≡ kind → length (form kind).kids ≡ 0 → tree_of ns id ≡ tree_with (tree_of ns) kind n.number n.name []
+childless ns id n is fine kind k none = tree_as ns id n kind [] is k (nil_from_length n.kids (kids_as ns id n kind fine k ∙ none))
+
+module _ (ns : List Node) (binders : Binders) (id : ℕ) (n : Node) (is : tree_of ns id ≡ tree_over (trees_in ns) n) (fine : HasForm (trees_in ns) id n) where
+  pub variable_cube : n.kind ≡ PointVariable → cube_of binders (tree_of ns id) ≡ slice_get binders.cubes n.number
+  variable_cube k = ap (cube_of binders) (childless ns id n is fine PointVariable k refl)
+
+  pub variable_list : n.kind ≡ PointVariable → coordinates binders (tree_of ns id) ≡ coordinates_of_variable n.number (slice_get binders.cubes n.number)
+  variable_list k = ap (coordinates binders) (childless ns id n is fine PointVariable k refl)
+
+  pub only_cube : n.kind ≡ OnlyPoint → cube_of binders (tree_of ns id) ≡ Some cube_one
+  only_cube k = ap (cube_of binders) (childless ns id n is fine OnlyPoint k refl)
+
+  pub end_cube : (n.kind ≡ Zero) ⊎ (n.kind ≡ One) → cube_of binders (tree_of ns id) ≡ Some cube_two
+  end_cube k = elim k [
+    | inl zero ↦ ap (cube_of binders) (childless ns id n is fine Zero zero refl)
+    | inr one ↦ ap (cube_of binders) (childless ns id n is fine One one refl)
+  ]
+
+  pub zero_list : n.kind ≡ Zero → coordinates binders (tree_of ns id) ≡ coordinate.Zero ∷ []
+  zero_list k = ap (coordinates binders) (childless ns id n is fine Zero k refl)
+
+  pub one_list : n.kind ≡ One → coordinates binders (tree_of ns id) ≡ coordinate.One ∷ []
+  one_list k = ap (coordinates binders) (childless ns id n is fine One k refl)
+
+  pub pair_cube : (s u : ℕ) → n.kind ≡ PointPair → n.kids ≡ s ∷ u ∷ [] → cube_of binders (tree_of ns id)
+      ≡ option_and_then (λ l. option_and_then (λ r. Some (product l r)) (cube_of binders (tree_of ns u))) (cube_of binders (tree_of ns s))
+  pair_cube s u k are = ap (cube_of binders) (tree_as ns id n PointPair (s ∷ u ∷ []) is k are)
+
+  pub left_cube : (s : ℕ) → n.kind ≡ PointLeft → n.kids ≡ s ∷ [] → cube_of binders (tree_of ns id) ≡ option_and_then left_part (cube_of binders (tree_of ns s))
+  left_cube s k are = ap (cube_of binders) (tree_as ns id n PointLeft (s ∷ []) is k are)
+
+  pub right_cube : (s : ℕ) → n.kind ≡ PointRight → n.kids ≡ s ∷ [] → cube_of binders (tree_of ns id) ≡ option_and_then right_part (cube_of binders (tree_of ns s))
+  right_cube s k are = ap (cube_of binders) (tree_as ns id n PointRight (s ∷ []) is k are)
+
+  pub pair_list : (s u : ℕ) → n.kind ≡ PointPair → n.kids ≡ s ∷ u ∷ [] → coordinates binders (tree_of ns id) ≡ coordinates binders (tree_of ns s) ++ coordinates binders (tree_of ns u)
+  pair_list s u k are = ap (coordinates binders) (tree_as ns id n PointPair (s ∷ u ∷ []) is k are)
+
+  pub left_list : (s : ℕ) → n.kind ≡ PointLeft → n.kids ≡ s ∷ [] → coordinates binders (tree_of ns id)
+      ≡ take (left_width (cube_of binders (tree_of ns s))) (coordinates binders (tree_of ns s))
+  left_list s k are = ap (coordinates binders) (tree_as ns id n PointLeft (s ∷ []) is k are)
+
+  pub right_list : (s : ℕ) → n.kind ≡ PointRight → n.kids ≡ s ∷ [] → coordinates binders (tree_of ns id)
+      ≡ drop (left_width (cube_of binders (tree_of ns s))) (coordinates binders (tree_of ns s))
+  right_list s k are = ap (coordinates binders) (tree_as ns id n PointRight (s ∷ []) is k are)
+
+-- ---- one more is told of
+
+module _ (ns : List Node) (entries : List ℕ) (id : ℕ) (told : ToldPoint) (is : IsTold ns entries id told)
+    (before after : Points) (noted : (q : ℕ) → told_of after q ≡ cond (nat_eq id q) (Some told) (told_of before q)) where
+  pub tells_here : Tells ns entries after id
+  tells_here = (told, noted id ∙ ap (λ b. cond b (Some told) (told_of before id)) ((unsigned_Decides id id).1 refl), is)
+
+  pub tells_others : (q : ℕ) → Tells ns entries before q → Tells ns entries after q
+  tells_others q old = by (nat_eq id q) refl where
+    by : (b : Bool) → nat_eq id q ≡ b → Tells ns entries after q
+    by true e = subst (Tells ns entries after) ((unsigned_Decides id q).0 e) tells_here
+    by false e = (old.0, noted q ∙ ap (λ b. cond b (Some told) (told_of before q)) e ∙ old.1, old.2)
+
+-- what is told of an id is so
+pub told_is : (ns : List Node) (entries : List ℕ) (points : Points) (id : ℕ) → Tells ns entries points id → (told : ToldPoint) → told_of points id ≡ Some told → IsTold ns entries id told
+told_is ns entries points id tells told e =
+    let at = tells.1 in
+    let same : tells.0 ≡ told = cc in
+    subst (IsTold ns entries id) same tells.2
+
+pub is_told : (ns : List Node) (entries : List ℕ) (points : Points) (id : ℕ) → Tells ns entries points id → IsSome (told_of points id)
+is_told ns entries points id tells = rw tells.1 refl
+
+-- the kids of a node are told of
+module _ (ns : List Node) (entries : List ℕ) (points : Points) (id : ℕ) (n : Node) (kids : TellsKids ns entries points id) (at : slice_get ns id ≡ Some n) where
+  pub kid_told : (s : ℕ) → n.kids ≡ s ∷ [] → Tells ns entries points s
+  kid_told s are = all_one (Tells ns entries points) s n.kids are (kids n at)
+
+  pub kids_told : (s u : ℕ) → n.kids ≡ s ∷ u ∷ [] → Tells ns entries points s × Tells ns entries points u
+  kids_told s u are = all_two (Tells ns entries points) s u n.kids are (kids n at)
+
+  -- and what is told of them is so
+  pub kid_is : (s : ℕ) → n.kids ≡ s ∷ [] → (told : ToldPoint) → told_of points s ≡ Some told → IsTold ns entries s told
+  kid_is s are told e = told_is ns entries points s (kid_told s are) told e
+
+  pub first_is : (s u : ℕ) → n.kids ≡ s ∷ u ∷ [] → (told : ToldPoint) → told_of points s ≡ Some told → IsTold ns entries s told
+  first_is s u are told e = told_is ns entries points s (kids_told s u are).0 told e
+
+  pub second_is : (s u : ℕ) → n.kids ≡ s ∷ u ∷ [] → (told : ToldPoint) → told_of points u ≡ Some told → IsTold ns entries u told
+  second_is s u are told e = told_is ns entries points u (kids_told s u are).1 told e
+
+-- what is told over the cubes of a context is so over the context
+module _ (old new : List Node) (grows : Grows old new) (context point : ℕ) (live : point < length old) (entries : List ℕ) (are : AreCubes old entries)
+    (trees : map (tree_of old) entries ≡ cubes_of (tree_of old context)) (same : List ℕ) (same_is : same ≡ entries) where
+  over_context : {X : Type 0} (of : Binders → Tree → X) → of (binders_at new same) (tree_of new point) ≡ of (binders_of (tree_of old context)) (tree_of old point)
+  over_context of =
+      let cubes : map (tree_of new) same ≡ cubes_of (tree_of old context) = ap (map (tree_of new)) same_is ∙ same_entries old new grows entries are ∙ trees in
+      λ i. of (record { cubes = cubes i }) (same_tree old new grows point live i)
+
+  pub told_over : (points : Points) → Tells new same points point → TellsOver new (tree_of old context) (tree_of old point) points point
+  told_over points tells = (
+    tells.0,
+    tells.1,
+    record {
+      cube = subst (λ (cube : Option Tree). IsCubeTold new cube tells.0.cube) (over_context cube_of) tells.2.cube;
+      list = tells.2.list ∙ over_context coordinates;
+    },
+  )

@@ -1,0 +1,5 @@
+pub mod Adding
+pub mod AnswerTables
+pub mod TopeNodes
+pub mod Naming
+pub mod Walking

@@ -1,0 +1,15 @@
+//! Topes over a context: whether one is true at given ranks, and which coordinates occur in it.
+#![tactic(auto)]
+
+mod entries;
+mod kids;
+mod lists;
+mod occurrences;
+mod ranks;
+mod truths;
+
+pub use occurrences::occurring;
+pub use truths::truth;
+
+#[cfg(test)]
+mod tests;
