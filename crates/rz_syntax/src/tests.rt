@@ -69,10 +69,57 @@ const READ: &[(&str, Option<u64>)] = &[
     ("#compute (x , y) (z)", None),
     ("#compute (x y)", None),
     ("#compute (x) -> U", None),
+    // Whole declarations.
+    ("#def id (A : U) (x : A) : A := x", None),
+    ("#def Δ¹ : 2 → TOPE := \\ t → TOP", None),
+    ("#def Δ² : (2 × 2) → TOPE := \\ (t , s) → s ≤ t", None),
+    (
+        "#def hom (A : U) (x y : A) : U := (t : Δ¹) → A [t ≡ 0₂ ↦ x, t ≡ 1₂ ↦ y]",
+        None,
+    ),
+    (
+        "#def hom2 (A : U) (x y z : A) (f : hom A x y) (g : hom A y z) (h : hom A x z) : U \
+         := ((t , s) : Δ²) → A [s ≡ 0₂ ↦ f t, t ≡ 1₂ ↦ g s, s ≡ t ↦ h s]",
+        None,
+    ),
+    (
+        "#def vertex (A : U) (k : A) : k (0₂ , 0₂) =_{A} x := refl_{x}",
+        None,
+    ),
+    (
+        "#def bad (A : U) (a b : A) (t s : 2) : A := recOR(t <= s |-> a, s <= t |-> b)",
+        None,
+    ),
+    (
+        "#def half (A : U) (g : (t : 2) → (s : 2) → A) \
+         (f : (t : 2) → (s : 2) → A [t <= s |-> g t s]) (t s : 2) \
+         : f t s =_{A} recOR(t <= s |-> g t s, s <= t |-> f t s) := refl_{f t s}",
+        None,
+    ),
+    (
+        "#def odd (A : U) (x y : A) : {t : 2 | t === 0_2 /\\ t === 1_2} -> x =_{A} y \
+         := \\ t -> refl_{x}",
+        None,
+    ),
+    (
+        "#def N : U := (A : U) → (A → A) → A → A #def two : N := \\ A f x → f (f x)",
+        None,
+    ),
+    (
+        "#section s #assume A : U #assume a : A #def q uses (a) : A := p #end s",
+        None,
+    ),
+    ("#compute (\\ (x : U) -> x) U", None),
+    (
+        "#def e (A : U) (f : {t : 2 | t === 0_2} -> A) : A := f 1_2",
+        None,
+    ),
+    ("#def r (A : U) (x : A) : A [TOP |-> x] := x", None),
     ("#compute ((x) : U) -> U", Some(7)),
     // No commands.
     ("x", Some(2)),
     ("#lang rzk-1", Some(2)),
+    ("#compute U #lang rzk-1", Some(4)),
     ("#def", Some(3)),
     ("#def x :", Some(5)),
     ("#def : U", Some(3)),
@@ -138,6 +185,13 @@ const TREES: &[(&str, &str)] = &[
     (
         "#compute f x y",
         "; f x y app 0.1 1.2 2.3 ; compute 2 4 3.1",
+    ),
+    // Each form without parts.
+    (
+        "#compute U CUBE TOPE 1 2 *_1 0_2 1_2 TOP BOT Unit unit recBOT refl",
+        "; Universe CubeSort TopeSort CubeOne CubeTwo Star EndZero EndOne Top Bottom UnitType \
+         UnitTerm RecBot Refl app 0.1 1.2 2.3 3.4 4.5 5.6 6.7 7.8 8.9 9.10 10.11 11.12 12.13 13.14 \
+         ; compute 2 15 14.1",
     ),
     // Products group to the left, the others to the right.
     (
@@ -269,6 +323,9 @@ const DEEP: &[(&str, &str, &str, u64, u64)] = &[
     ("a /\\ ", "a", "", 200, 404),
     ("a =_{", "A", "} a", 200, 404),
     ("refl_{", "a", "}", 200, 203),
+    // A closing bracket gives the level back, and a command begins anew.
+    ("(A -> A) ", "x", "", 3000, 0),
+    ("A -> A #compute ", "A", "", 3000, 0),
     // Products don't raise the level.
     ("2 × ", "2", "", 3000, 0),
 ];
@@ -513,7 +570,13 @@ fn tokens_are_read_or_refused(rt: HostRuntime) -> Result<(), Fail> {
             "in {source}"
         );
     }
-    for source in ["", "x", "rzk-1 #lang", "#def x : U := U"] {
+    for source in [
+        "",
+        "x",
+        "rzk-1 #lang",
+        "#def x : U := U",
+        "\u{feff}#lang rzk-1",
+    ] {
         assert_eq!(rt;
             fault_of(rt.alloc(), source),
             Some(ParseFault::NoLang),
@@ -567,5 +630,11 @@ fn levels_end(rt: HostRuntime) -> Result<(), Fail> {
             deep.0
         );
     }
+    // A token too deep comes before an earlier fault of the grammar.
+    let source = repeated(rt.alloc(), &("= (", "", "", 0, 0), 201)?;
+    assert_eq!(rt;
+        fault_of(rt.alloc(), source.as_str()),
+        Some(ParseFault::TooNested { token: 404 })
+    );
     Ok(())
 }
