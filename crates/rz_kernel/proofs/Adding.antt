@@ -9,6 +9,7 @@ use Rattle.rz_rules.specs.Tree.{Tree, At, HasForm, trees_of, blank, sort_of, tre
 use Rattle.rz_rules.specs.Judgment.{Statement, kind_of, ids_of, context_of, parts_of, statement}
 use Rattle.rz_rules.proofs.Trees.{trees_of-append}
 use Rattle.rz_pool.specs.Pool.{Grows}
+use Rattle.rz_pool.proofs.Nodes.{length-Grows}
 use Rattle.rz_rules.specs.Derivation.{Step}
 use Rattle.rz_rules.specs.File.{StepFits, StepItem, extended, statement_at, step_over}
 use Rattle.rz_kernel_rows.specs.Line.{IsLineOver, IsJudgmentOver, statements_of, step_of, said}
@@ -114,29 +115,33 @@ state_with_tree state ms place node grows is tree places are =
           ∙ ap (λ (ts : List Tree). ts ++ tree_of ms place ∷ []) (same_trees state.pool.nodes ms grows state.places.items is.places)
           ∙ ap (λ (t : Tree). map (tree_of state.pool.nodes) state.places.items ++ t ∷ []) tree
 
--- after a step, whose row left the pool as it was
-pub state_more : (state : KernelState) (ms : List Node) → ms ≡ state.pool.nodes → (placed line : Line)
+-- after a step
+pub state_more : (state : KernelState) (ms : List Node) → Grows state.pool.nodes ms → IsKernelState state → (placed line : Line) → IsLineOver state.pool.nodes placed
     → step_of state.pool.nodes placed ≡ step_over (file_state state).trees line → StepFits (file_state state) line
     → (lines : List Line) → lines ≡ state.lines.items ++ placed ∷ []
     → record { trees = map (tree_of ms) state.places.items; statements = statements_of ms lines; claims = claims_of (statements_of ms lines) state.claims.items }
     ≡ extended (file_state state) (StepItem line)
-state_more state ms same placed line step fits lines are =
-    λ i. record { trees = map (tree_of (same i)) state.places.items; statements = said i; claims = claims i } where
-      says : statement (trees_in state.pool.nodes) placed.says ≡ statement (file_state state).trees line.says
-      says = ap (λ (s : Step). s.says) step
+state_more state ms grows is placed line over step fits lines are =
+    λ i. record { trees = trees i; statements = said i; claims = claims i } where
+      trees : map (tree_of ms) state.places.items ≡ map (tree_of state.pool.nodes) state.places.items
+      trees = same_trees state.pool.nodes ms grows state.places.items is.places
+
+      says : statement (trees_in ms) placed.says ≡ statement (file_state state).trees line.says
+      says = same_statement state.pool.nodes ms grows placed.says over ∙ ap (λ (s : Step). s.says) step
 
       said : statements_of ms lines ≡ (file_state state).statements ++ statement (file_state state).trees line.says ∷ []
-      said = (λ i. statements_of (same i) (are i)) ∙ said_more state.pool.nodes state.lines.items placed
-          ∙ ap (λ (s : Statement). (file_state state).statements ++ s ∷ []) says
+      said = ap (statements_of ms) are ∙ said_more ms state.lines.items placed
+          ∙ (λ i. same_said state.pool.nodes ms grows state.lines.items is.lines i ++ says i ∷ [])
 
       claims : claims_of (statements_of ms lines) state.claims.items ≡ claims_of (file_state state).statements state.claims.items
       claims = no_claims (file_state state).statements (statements_of ms lines) state.claims.items fits.claims
 
-pub over_nodes : (state : KernelState) (ms : List Node) → ms ≡ state.pool.nodes → (placed : Line) → IsLineOver state.pool.nodes placed → IsKernelState state
+pub over_nodes : (state : KernelState) (ms : List Node) → Grows state.pool.nodes ms → (placed : Line) → IsLineOver state.pool.nodes placed → IsKernelState state
     → (lines : List Line) → lines ≡ state.lines.items ++ placed ∷ []
     → (All (λ place. place < length ms) state.places.items) × All (IsLineOver ms) lines
-over_nodes state ms same placed over is lines are = (
-  subst (λ (ns : List Node). All (λ place. place < length ns) state.places.items) (sym same) is.places,
-  subst (λ (ns : List Node). All (IsLineOver ns) lines) (sym same)
-      (subst (λ (ls : List Line). All (IsLineOver state.pool.nodes) ls) (sym are) (All-push (IsLineOver state.pool.nodes) state.lines.items placed is.lines over)),
-)
+over_nodes state ms grows placed over is lines are =
+    let longer = length-Grows state.pool.nodes ms grows in (
+      λ k d lt. omega (arith, longer, is.places k d lt),
+      lines_over state.pool.nodes ms grows longer lines
+          (subst (λ (ls : List Line). All (IsLineOver state.pool.nodes) ls) (sym are) (All-push (IsLineOver state.pool.nodes) state.lines.items placed is.lines over)),
+    )

@@ -5,6 +5,7 @@ use Rattle.rz_rules.specs.Tree.{tree_of, tree_over, trees_in}
 use Rattle.rz_rules.specs.Judgment.{Statement}
 use Rattle.rz_rules.specs.File.{Claim, FileState, statement_at}
 use Rattle.rz_kernel_rows.specs.Line.{IsLineOver, statements_of}
+use Rattle.rz_scope.specs.Knowledge.{IsKnown}
 use Rattle.rz_kernel.specs.declared.state.KernelState.{KernelState}
 
 -- names and numbers of steps as claims
@@ -29,7 +30,8 @@ with_tree state node =
     let known = file_state state in
     record known { trees = known.trees ++ tree_over (trees_in state.pool.nodes) node ∷ [] }
 
--- what the kernel has names nodes that are there
+-- what the kernel has names nodes that are there, and what it knows of them is so
 pub record IsKernelState (state : KernelState) : Type 0 where
   pub places : All (λ place. place < length state.pool.nodes) state.places.items
   pub lines : All (IsLineOver state.pool.nodes) state.lines.items
+  pub known : IsKnown state.pool.nodes state.known

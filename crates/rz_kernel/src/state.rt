@@ -9,9 +9,10 @@ ghost use Rattle.rz_kernel.specs.State.{file_state, with_tree, IsKernelState};
 
 use crate::places::{judgment_at, kids_at};
 use rz_drv::Item;
-use rz_kernel_rows::follows;
+use rz_kernel_rows::follows_with;
 use rz_pool::{HashKey, Pool};
 use rz_rules::{Line, Name, Node, OutOfMemory};
+use rz_scope::Knowledge;
 use std::alloc::Global;
 
 /// What the lines so far give.
@@ -23,6 +24,8 @@ pub struct KernelState {
     pub places: Vec<u64>,
     /// The steps of the file in order, over ids of the pool.
     pub lines: Vec<Line>,
+    /// What is known of the contexts of the pool.
+    pub known: Knowledge,
     /// The claims of the file in order: a name, and the number of the step that it names.
     pub claims: Vec<(Name, u64)>,
 }
@@ -33,8 +36,10 @@ impl KernelState {
         ensures empty { file_state result ≡ empty_state }
         ensures state { IsKernelState result }
     {
+        let pool = Pool::keyed(alloc, key);
         KernelState {
-            pool: Pool::keyed(alloc, key),
+            known: Knowledge::new(alloc, &pool),
+            pool,
             places: Vec::new(alloc),
             lines: Vec::new(alloc),
             claims: Vec::new(alloc),
@@ -105,7 +110,7 @@ impl KernelState {
             says,
             from: line.from,
         };
-        if !follows(alloc, &mut self.pool, &self.lines, &placed)? {
+        if !follows_with(alloc, &mut self.pool, &mut self.known, &self.lines, &placed)? {
             return Ok(false);
         }
         self.lines.push(placed)?;

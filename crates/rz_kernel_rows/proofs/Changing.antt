@@ -10,9 +10,9 @@ use Rattle.rz_rules.specs.Structural.{equal_points, has, holds}
 use Rattle.rz_rules.specs.Substitution.{Changes, IndicesBelow}
 use Rattle.rz_rules.specs.Context.{OfCube, OfType}
 use Rattle.rz_subst.specs.Walk.{IsAnswerOf}
-use Rattle.rz_kernel_rows.specs.declared.contexts.Entry.{Entry}
-use Rattle.rz_kernel_rows.specs.declared.contexts.Entry.TheVariants as entry
-use Rattle.rz_kernel_rows.specs.declared.contexts.Last.{Last}
+use Rattle.rz_scope.specs.declared.entries.Entry.{Entry}
+use Rattle.rz_scope.specs.declared.entries.Entry.TheVariants as entry
+use Rattle.rz_scope.specs.declared.entries.Last.{Last}
 use Rattle.rz_kernel_rows.specs.Context.{entry_over}
 use Rattle.rz_kernel_rows.specs.Move.{AllowsNoPoint, AllowsNoTerm, IsNotRemoved, Removes}
 

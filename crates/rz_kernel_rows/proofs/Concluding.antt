@@ -1,6 +1,6 @@
 -- The conclusion of a rule, against what a line says.
 use Rattle.std.proofs.Common.{◌≡◌, ◌≢◌, ℕ, Bool, true, List, [], ◌∷◌, Option, Some, None, inl, inr, refl, sym, ap, subst, ◌∙◌}
-use Rattle.std.specs.Prelude.{◌↔◌, Result, Ok, Err, IfOk}
+use Rattle.std.specs.Prelude.{◌↔◌, Result, Ok, Err, IfOk, OnOk}
 use Rattle.std.proofs.lemmas.Bool.{cases_eq}
 use Rattle.std.proofs.lemmas.List.Elements.{All-cons, All-nil}
 use Rattle.rz_rules.specs.declared.nodes.Node.{Node}
@@ -93,3 +93,8 @@ by_scheme scheme.TopeCut rule number premises says other = refl
 by_scheme scheme.ContextOf rule number premises says other = refl
 by_scheme scheme.Inversion rule number premises says other = refl
 by_scheme scheme.OwnType rule number premises says other = refl
+
+-- what holds anyway holds where there is an answer
+pub anyway : {A E : Type 0} (r : Result A E) (P : Type 0) → P → OnOk r P
+anyway (Ok x) P p = p
+anyway (Err e) P p = tt

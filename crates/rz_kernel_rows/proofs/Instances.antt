@@ -108,7 +108,7 @@ letters_have_sorts nodes forms letters name text found =
 
 -- ---- conditions
 
-condition_same : (a b : Assignment) (condition : Condition) → All (SameLetter a b) (letters_of condition) → IsMet a condition → IsMet b condition
+pub condition_same : (a b : Assignment) (condition : Condition) → All (SameLetter a b) (letters_of condition) → IsMet a condition → IsMet b condition
 condition_same a b (FewLeaves cube) h met = subst (λ (t : Tree). leaves t ≤ 64) (h 0 cube (omega arith)) met
 condition_same a b (TopeOver context tope) h met =
     let one = h 0 context (omega arith) in

@@ -23,7 +23,7 @@ use Rattle.rz_kernel_rows.specs.declared.moves.Change.TheVariants.{Nothing, Open
 use Rattle.rz_kernel_rows.specs.Context.{IsAt}
 use Rattle.rz_kernel_rows.specs.Line.{IsJudgmentOver}
 use Rattle.rz_kernel_rows.specs.Move.{IsConclusion, IsJudgmentFor, IsThere, changes_of}
-use Rattle.rz_kernel_rows.proofs.Scopes.{same_trees}
+use Rattle.rz_scope.proofs.Growing.{same_trees}
 
 -- the parts of a judgment are there
 pub IsJudgmentOver-parts : (nodes : List Node) (says : Judgment) → IsJudgmentOver nodes says → All (λ id. id < length nodes) (parts_of says)

@@ -16,9 +16,8 @@ pub mod Giving
 pub mod Typed
 pub mod Owning
 pub mod Concluding
-pub mod Scopes
-pub mod Telling
 pub mod Nodes
 pub mod Lists
 pub mod MetConditions
 pub mod EqualJudgments
+pub mod Searching

@@ -1,5 +1,5 @@
 -- Conditions by the ids of their letters.
-use Rattle.std.proofs.Common.{◌≡◌, ℕ, zero, suc, Bool, true, List, [], ◌∷◌, Some, Option, Result, Ok, Err, All, map, sym, ap, subst, arith}
+use Rattle.std.proofs.Common.{◌≡◌, ℕ, zero, suc, Bool, true, List, [], ◌∷◌, Some, Option, Result, Ok, Err, All, map, sym, ap, subst, ◌∙◌, arith}
 use Rattle.std.specs.Prelude.{IfOk, ◌↔◌}
 use Rattle.rz_rules.specs.declared.judgments.Judgment.{Judgment}
 use Rattle.rz_rules.specs.declared.judgments.Judgment.TheVariants.{Holds}
@@ -9,10 +9,15 @@ use Rattle.rz_rules.specs.declared.symbols.Condition.{Condition}
 use Rattle.rz_rules.specs.declared.symbols.Condition.TheVariants.{TopeOver, PointOf}
 use Rattle.rz_rules.specs.Cube.{binders_of}
 use Rattle.rz_rules.specs.Tope.{IsPointOf, IsTopeOver}
-use Rattle.rz_rules.specs.Tree.{Tree, tree_of}
+use Rattle.rz_rules.specs.Tree.{Tree, sort_of, tree_of}
+use Rattle.std.proofs.lemmas.List.Elements.{All-weaker}
+use Rattle.rz_pool.specs.Pool.{Grows}
+use Rattle.rz_pool.proofs.Nodes.{KeepsTrees-Grows, length-Grows}
+use Rattle.rz_kernel_rows.specs.Line.{letters_of}
+use Rattle.rz_kernel_rows.proofs.Instances.{SameLetter, condition_same}
 use Rattle.rz_rules.specs.Judgment.{context_of, kind_of, parts_of}
 use Rattle.rz_rules.specs.Derivation.{IsMet, IsScoped}
-use Rattle.rz_spell.specs.Letters.{assignment_of, letter_at, tree_for}
+use Rattle.rz_spell.specs.Letters.{IsFound, assignment_of, letter_at, tree_for}
 
 module _ (nodes : List Node) (letters : List (Option ℕ)) (name : Option ℕ) {E : Type 0} (r : Result Bool E) where
   pub tope_over : (c t : Letter) (context tope : ℕ) (condition : Condition) → condition ≡ TopeOver c t → letter_at letters c.number ≡ Some context → letter_at letters t.number ≡ Some tope
@@ -42,3 +47,26 @@ module _ (nodes : List Node) {E : Type 0} (r : Result Bool E) where
           single t zero d l = t
           single t (suc k) d l = absurd (omega arith)
         one (Err e) h = tt
+
+-- ---- a pool that grows
+
+module _ (old new : List Node) (grows : Grows old new) (letters : List (Option ℕ)) (name : Option ℕ) where
+  pub found_grown : (letter : Letter) → IsFound old letters letter → IsFound new letters letter
+  found_grown letter found = record {
+    id = found.id;
+    there = found.there;
+    live = omega (arith, found.live, length-Grows old new grows);
+    sort = ap sort_of (KeepsTrees-Grows old new grows found.id found.live) ∙ found.sort;
+  }
+
+  same_tree : (letter : Letter) → IsFound old letters letter → tree_for new (letter_at letters letter.number) ≡ tree_for old (letter_at letters letter.number)
+  same_tree letter found = ap (tree_for new) found.there ∙ KeepsTrees-Grows old new grows found.id found.live ∙ sym (ap (tree_for old) found.there)
+
+  -- a condition is met as before
+  pub met_grown : (condition : Condition) → All (IsFound old letters) (letters_of condition) → IsMet (assignment_of new letters name) condition ↔ IsMet (assignment_of old letters name) condition
+  met_grown condition found =
+      let Old = assignment_of old letters name in
+      let New = assignment_of new letters name in (
+        condition_same New Old condition (All-weaker (IsFound old letters) (SameLetter New Old) (λ letter is. same_tree letter is) (letters_of condition) found),
+        condition_same Old New condition (All-weaker (IsFound old letters) (SameLetter Old New) (λ letter is. sym (same_tree letter is)) (letters_of condition) found),
+      )

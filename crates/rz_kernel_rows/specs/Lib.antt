@@ -1,4 +1,4 @@
-pub mod Scope
+pub mod Leaves
 pub mod Finding
 pub mod Line
 pub mod Context

@@ -1,7 +1,5 @@
 -- Judgments that move from one context to another, over the nodes of a pool.
 use Rattle.std.specs.Prelude.{◌≡◌, ℕ, ◌<◌, ◌^◌, ◌↔◌, List, length, map, Option, Some, None, All}
-use Rattle.rz_rules.specs.declared.kinds.Kind.{Kind}
-use Rattle.rz_rules.specs.declared.kinds.Kind.TheVariants.{CubeEntry, TopeEntry, TermEntry}
 use Rattle.rz_rules.specs.declared.kinds.Sort.TheVariants as sort
 use Rattle.rz_rules.specs.declared.kinds.Space.TheVariants.{Points, Terms}
 use Rattle.rz_rules.specs.declared.rows.Scheme.{Scheme}
@@ -16,14 +14,15 @@ use Rattle.rz_rules.specs.Context.{OfCube, OfTope, OfType, with_entry, with_entr
 use Rattle.rz_rules.specs.Judgment.{IsStatement, Statement, statement}
 use Rattle.rz_rules.specs.Structural.{equal_points, has, holds}
 use Rattle.rz_pool.specs.Counts.{depth_of as depth_of_counts}
-use Rattle.rz_kernel_rows.specs.declared.contexts.Entry.{Entry}
-use Rattle.rz_kernel_rows.specs.declared.contexts.Entry.TheVariants as entry
-use Rattle.rz_kernel_rows.specs.declared.contexts.Last.{Last}
+use Rattle.rz_scope.specs.declared.entries.Entry.{Entry}
+use Rattle.rz_scope.specs.declared.entries.Entry.TheVariants as entry
+use Rattle.rz_scope.specs.declared.entries.Last.{Last}
 use Rattle.rz_kernel_rows.specs.declared.moves.Change.{Change}
 use Rattle.rz_kernel_rows.specs.declared.moves.Change.TheVariants.{Nothing, Opens, Puts}
 use Rattle.rz_kernel_rows.specs.declared.moves.Extended.{Extended}
 use Rattle.rz_kernel_rows.specs.Context.{IsAt, IsEntryAt, entries_over, entry_over}
 use Rattle.rz_kernel_rows.specs.Line.{IsJudgmentOver}
+pub use Rattle.rz_scope.specs.Entry.{with_id}
 
 -- what becomes of the variables
 abbrev pub changes_of : List Node → Change → Changes
@@ -36,18 +35,6 @@ abbrev pub IsThere : List Node → Change → Type 0
 IsThere nodes Nothing = Unit {0}
 IsThere nodes (Opens space) = Unit {0}
 IsThere nodes (Puts space value) = IsAt nodes (sort_in space) value
-
--- the kind of a context with this last entry
-abbrev pub kind_of_entry : Entry → Kind
-kind_of_entry (entry.Cube id) = CubeEntry
-kind_of_entry (entry.Tope id) = TopeEntry
-kind_of_entry (entry.Term id) = TermEntry
-
--- the entry with another tree
-abbrev pub with_id : Entry → ℕ → Entry
-with_id (entry.Cube id) new = entry.Cube new
-with_id (entry.Tope id) new = entry.Tope new
-with_id (entry.Term id) new = entry.Term new
 
 -- the context behind which entries were made anew, and what they bind
 pub record IsExtended (old new : List Node) (changes : Changes) (outer : ℕ) (inner : List Entry) (made : Extended) : Type 0 where

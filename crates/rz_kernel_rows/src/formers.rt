@@ -1,6 +1,6 @@
 //! What the typing row of a term's former tells.
 
-ghost use Rattle.std.specs.Prelude.{◌≡◌, [], ◌∷◌, ◌++◌, map, All, Some, IfOk, IfSome, IfNone, slice_get};
+ghost use Rattle.std.specs.Prelude.{◌≡◌, [], ◌∷◌, ◌++◌, map, All, Some, IfOk, IfSome, IfNone, OnOk, slice_get};
 ghost use Rattle.rz_rules.specs.declared.kinds.Sort.TheVariants.{Context, Term};
 ghost use Rattle.rz_rules.specs.Judgment.{statement};
 ghost use Rattle.rz_rules.specs.Structural.{IsInversion, IsOwnType, SameAsOwn, universe};
@@ -8,6 +8,7 @@ ghost use Rattle.rz_rules.specs.Tree.{kind_at, tree_of, trees_in};
 ghost use Rattle.rz_rules.specs.declared.judgments.Judgment.TheVariants.{Has};
 ghost use Rattle.rz_rules.specs.Table.{typing_row as row_of_former};
 ghost use Rattle.rz_pool.specs.Pool.{Grows, IsPool};
+ghost use Rattle.rz_scope.specs.Knowledge.{IsKnown};
 ghost use Rattle.rz_kernel_rows.specs.Context.{IsAt};
 ghost use Rattle.rz_kernel_rows.specs.Line.{IsJudgmentOver};
 ghost use Rattle.rz_kernel_rows.specs.Move.{IsConclusion, IsTypeFor};
@@ -17,6 +18,7 @@ use crate::find::find_subject;
 use crate::variables::variable_type;
 use rz_pool::Pool;
 use rz_rules::{Judgment, Kids, Kind, Name, Node, OutOfMemory, Row};
+use rz_scope::Knowledge;
 use rz_spell::spell;
 use std::alloc::Global;
 
@@ -169,19 +171,22 @@ fn former_type(
 fn own_type(
     alloc: Global,
     pool: &mut Pool,
+    known: &mut Knowledge,
     context: u64,
     term: u64,
 ) -> Result<Option<u64>, OutOfMemory>
     requires pool { IsPool pool.old.nodes }
+    requires known { IsKnown pool.old.nodes known.old }
     requires context { IsAt pool.old.nodes Context context }
     requires term { IsAt pool.old.nodes Term term }
     ensures typed { IfOk result (IsTypeFor pool.new.nodes
         (IsOwnType (tree_of pool.old.nodes context) (tree_of pool.old.nodes term))) }
+    ensures known { OnOk result (IsKnown pool.old.nodes known.new) }
     ensures grows { Grows pool.old.nodes pool.new.nodes }
     ensures pool { IsPool pool.new.nodes }
 {
     match pool.node(term).kind {
-        Kind::TermVariable => variable_type(alloc, pool, context, term),
+        Kind::TermVariable => variable_type(alloc, pool, known, context, term),
         _ => former_type(alloc, pool, context, term),
     }
 }
@@ -190,17 +195,20 @@ fn own_type(
 pub fn own(
     alloc: Global,
     pool: &mut Pool,
+    known: &mut Knowledge,
     premises: &[Judgment],
 ) -> Result<Option<Judgment>, OutOfMemory>
     requires pool { IsPool pool.old.nodes }
+    requires known { IsKnown pool.old.nodes known.old }
     requires premises { All (IsJudgmentOver pool.old.nodes) premises.now }
     ensures concludes { IfOk result (IsConclusion pool.new.nodes
         (SameAsOwn (map (statement (trees_in pool.old.nodes)) premises.now))) }
+    ensures known { OnOk result (IsKnown pool.old.nodes known.new) }
     ensures grows { Grows pool.old.nodes pool.new.nodes }
     ensures pool { IsPool pool.new.nodes }
 {
     match premises {
-        [premise] => own_of(alloc, pool, *premise),
+        [premise] => own_of(alloc, pool, known, *premise),
         _ => Ok(None),
     }
 }
@@ -209,19 +217,22 @@ pub fn own(
 fn own_of(
     alloc: Global,
     pool: &mut Pool,
+    known: &mut Knowledge,
     premise: Judgment,
 ) -> Result<Option<Judgment>, OutOfMemory>
     requires pool { IsPool pool.old.nodes }
+    requires known { IsKnown pool.old.nodes known.old }
     requires premise { IsJudgmentOver pool.old.nodes premise }
     ensures concludes { IfOk result (IsConclusion pool.new.nodes
         (SameAsOwn (statement (trees_in pool.old.nodes) premise ∷ []))) }
+    ensures known { OnOk result (IsKnown pool.old.nodes known.new) }
     ensures grows { Grows pool.old.nodes pool.new.nodes }
     ensures pool { IsPool pool.new.nodes }
 {
     let Judgment::Has { c, a, of } = premise else {
         return Ok(None);
     };
-    let Some(own) = own_type(alloc, pool, c, a)? else {
+    let Some(own) = own_type(alloc, pool, known, c, a)? else {
         return Ok(None);
     };
     let universe = make_universe(alloc, pool)?;

@@ -3,28 +3,15 @@
 ghost use Rattle.std.specs.Prelude.{◌<◌, ◌≤◌, ◌↔◌, [], ◌∷◌, ◌+◌, ◌++◌, length, All, IsTrue, IfOk, IfSome, IfNone};
 ghost use Rattle.rz_rules.specs.Tree.{tree_of};
 ghost use Rattle.rz_rules.specs.Cube.{leaves};
-ghost use Rattle.rz_kernel_rows.specs.Scope.{IsProductOf, IsNoProduct, IsStep};
+ghost use Rattle.rz_kernel_rows.specs.Leaves.{IsStep};
 
-use crate::points::two_kids;
 use rz_pool::Pool;
-use rz_rules::{Kind, OutOfMemory};
+use rz_rules::OutOfMemory;
+use rz_scope::parts_of;
 use std::alloc::Global;
 
 /// The most leaves that the cube of a context's entry may have.
 const MOST_LEAVES: usize = 64;
-
-/// The two parts of a cube that is a product.
-pub fn parts_of(pool: &Pool, cube: u64) -> Option<(u64, u64)>
-    requires { cube < length pool.now.nodes }
-    ensures parts { IfSome result (IsProductOf pool.now.nodes cube) }
-    ensures none { IfNone result (IsNoProduct (tree_of pool.now.nodes cube)) }
-{
-    let node = pool.node(cube);
-    match node.kind {
-        Kind::Product => Some(two_kids(&node.kids)),
-        _ => None,
-    }
-}
 
 /// Whether a cube has at most 64 leaves.
 ///

@@ -8,7 +8,6 @@ mod formers;
 mod leaves;
 mod lines;
 mod moves;
-mod points;
 mod variables;
 
-pub use lines::follows;
+pub use lines::{follows, follows_with};

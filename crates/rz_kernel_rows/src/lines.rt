@@ -1,6 +1,6 @@
 //! Whether a line follows.
 
-ghost use Rattle.std.specs.Prelude.{◌≡◌, ◌≢◌, ℕ, ◌↔◌, List, None, All, IsTrue, Some, IfOk, IfSome, IfNone, map, slice_get};
+ghost use Rattle.std.specs.Prelude.{◌≡◌, ◌≢◌, ℕ, ◌↔◌, List, None, All, IsTrue, Some, IfOk, IfSome, IfNone, OnOk, map, slice_get};
 ghost use Rattle.std.specs.Option.{option_copied};
 ghost use Rattle.rz_rules.specs.declared.judgments.Judgment.{Judgment};
 ghost use Rattle.rz_rules.specs.Derivation.{Applies, Follows, IsSpelled};
@@ -10,6 +10,7 @@ ghost use Rattle.rz_rules.specs.Structural.{ConcludesBy, IsContextOf};
 ghost use Rattle.rz_rules.specs.Table.{rule_of};
 ghost use Rattle.rz_rules.specs.Tree.{trees_in};
 ghost use Rattle.rz_pool.specs.Pool.{Grows, IsPool};
+ghost use Rattle.rz_scope.specs.Knowledge.{IsKnown};
 ghost use Rattle.rz_spell.specs.Letters.{assignment_of};
 ghost use Rattle.rz_spell.specs.Spelling.{AreLetters};
 ghost use Rattle.rz_kernel_rows.specs.Line.{IsInstanceOf, IsJudgmentOver, IsLineOver, said, statements_of, step_of};
@@ -22,6 +23,7 @@ use crate::moves::{remove, weaken};
 use crate::variables::{hypothesis, variable};
 use rz_pool::Pool;
 use rz_rules::{Judgment, Line, OutOfMemory, Row, Scheme};
+use rz_scope::Knowledge;
 use rz_spell::spell;
 use std::alloc::Global;
 
@@ -40,36 +42,64 @@ pub fn follows(
         ↔ Follows (statements_of pool.old.nodes lines.now) (step_of pool.old.nodes line.now)) }
     ensures nodes { pool.new.nodes ≡ pool.old.nodes }
 {
+    let mark = pool.mark();
+    let mut known = Knowledge::new(alloc, pool);
+    let answer = follows_with(alloc, pool, &mut known, lines, line);
+    pool.release(mark);
+    answer
+}
+
+/// The same, with what was known of the pool's contexts before, and is known then.
+///
+/// The cubes of points that it makes in the pool stay there.
+pub fn follows_with(
+    alloc: Global,
+    pool: &mut Pool,
+    known: &mut Knowledge,
+    lines: &[Line],
+    line: &Line,
+) -> Result<bool, OutOfMemory>
+    requires lines { All (IsLineOver pool.old.nodes) lines.now }
+    requires line { IsLineOver pool.old.nodes line.now }
+    requires known { IsKnown pool.old.nodes known.old }
+    ensures follows { IfOk result (λ yes. IsTrue yes
+        ↔ Follows (statements_of pool.old.nodes lines.now) (step_of pool.old.nodes line.now)) }
+    ensures known { OnOk result (IsKnown pool.new.nodes known.new) }
+    ensures grows { Grows pool.old.nodes pool.new.nodes }
+{
     let Some(premises) = premises_of(alloc, lines, line.from.as_slice())? else {
         return Ok(false);
     };
-    if !applies(alloc, pool, line, premises)? {
+    if !applies(alloc, pool, known, line, premises)? {
         return Ok(false);
     }
-    is_scoped(alloc, pool, line.says)
+    is_scoped(alloc, pool, known, line.says)
 }
 
 /// Whether a line's rule leads from these premises to what it says.
 fn applies(
     alloc: Global,
     pool: &mut Pool,
+    known: &mut Knowledge,
     line: &Line,
     premises: Vec<Judgment>,
 ) -> Result<bool, OutOfMemory>
     requires premises { All (IsJudgmentOver pool.old.nodes) premises.items }
     requires line { IsLineOver pool.old.nodes line.now }
+    requires known { IsKnown pool.old.nodes known.old }
     ensures applies { IfOk result (λ yes. IsTrue yes
         ↔ Applies (rule_of line.now.row) line.now.number
         (map (statement (trees_in pool.old.nodes)) premises.items)
         (statement (trees_in pool.old.nodes) line.now.says)) }
-    ensures nodes { pool.new.nodes ≡ pool.old.nodes }
+    ensures known { OnOk result (IsKnown pool.new.nodes known.new) }
+    ensures grows { Grows pool.old.nodes pool.new.nodes }
     ensures pool { IsPool pool.old.nodes }
 {
     let mark = pool.mark();
     match line.row.scheme() {
-        Scheme::Text => is_spelled_by_row(alloc, pool, line, premises),
+        Scheme::Text => is_spelled_by_row(alloc, pool, known, line, premises),
         scheme => {
-            let said = conclusion(alloc, pool, scheme, line, &premises);
+            let said = conclusion(alloc, pool, known, scheme, line, &premises);
             pool.release(mark);
             Ok(is_said(said?, line.says))
         }
@@ -80,22 +110,25 @@ fn applies(
 fn is_spelled_by_row(
     alloc: Global,
     pool: &mut Pool,
+    known: &mut Knowledge,
     line: &Line,
     mut premises: Vec<Judgment>,
 ) -> Result<bool, OutOfMemory>
     requires premises { All (IsJudgmentOver pool.old.nodes) premises.items }
     requires line { IsLineOver pool.old.nodes line.now }
+    requires known { IsKnown pool.old.nodes known.old }
     ensures spelled { IfOk result (λ yes. IsTrue yes ↔ ((line.now.number ≡ 0)
         × IsSpelled (rule_of line.now.row)
         (map (statement (trees_in pool.old.nodes)) premises.items)
         (statement (trees_in pool.old.nodes) line.now.says))) }
-    ensures nodes { pool.new.nodes ≡ pool.old.nodes }
+    ensures known { OnOk result (IsKnown pool.new.nodes known.new) }
+    ensures grows { Grows pool.old.nodes pool.new.nodes }
 {
     if line.number != 0 {
         return Ok(false);
     }
     premises.push(line.says)?;
-    is_instance(alloc, pool, line.row, &premises)
+    is_instance(alloc, pool, known, line.row, &premises)
 }
 
 /// Whether there is a judgment and it is this one.
@@ -112,6 +145,7 @@ fn is_said(said: Option<Judgment>, says: Judgment) -> bool
 fn conclusion(
     alloc: Global,
     pool: &mut Pool,
+    known: &mut Knowledge,
     scheme: Scheme,
     line: &Line,
     premises: &[Judgment],
@@ -119,18 +153,20 @@ fn conclusion(
     requires pool { IsPool pool.old.nodes }
     requires premises { All (IsJudgmentOver pool.old.nodes) premises.now }
     requires line { IsLineOver pool.old.nodes line.now }
+    requires known { IsKnown pool.old.nodes known.old }
     ensures concludes { IfOk result (IsConclusionFor pool.new.nodes
         (statement (trees_in pool.old.nodes) line.now.says) (ConcludesBy scheme line.now.number
         (map (statement (trees_in pool.old.nodes)) premises.now))) }
+    ensures known { OnOk result (IsKnown pool.old.nodes known.new) }
     ensures grows { Grows pool.old.nodes pool.new.nodes }
     ensures pool { IsPool pool.new.nodes }
 {
     let number = line.number;
     match scheme {
         Scheme::Text => Ok(None),
-        Scheme::Hypothesis => hypothesis(alloc, pool, number, premises),
+        Scheme::Hypothesis => hypothesis(alloc, pool, known, number, premises),
         Scheme::Variable => {
-            let says = variable(alloc, pool, line.says, premises)?;
+            let says = variable(alloc, pool, known, line.says, premises)?;
             Ok(unnumbered(number, says))
         }
         Scheme::Weakening => weaken(alloc, pool, number, premises),
@@ -140,7 +176,7 @@ fn conclusion(
         Scheme::ContextOf => Ok(unnumbered(number, context_of(premises))),
         Scheme::Inversion => inversion(alloc, pool, number, premises),
         Scheme::OwnType => {
-            let says = own(alloc, pool, premises)?;
+            let says = own(alloc, pool, known, premises)?;
             Ok(unnumbered(number, says))
         }
     }
@@ -171,13 +207,16 @@ fn context_of(premises: &[Judgment]) -> Option<Judgment>
 fn is_instance(
     alloc: Global,
     pool: &mut Pool,
+    known: &mut Knowledge,
     row: Row,
     judgments: &[Judgment],
 ) -> Result<bool, OutOfMemory>
-    requires { All (IsJudgmentOver pool.old.nodes) judgments.now }
+    requires judgments { All (IsJudgmentOver pool.old.nodes) judgments.now }
+    requires known { IsKnown pool.old.nodes known.old }
     ensures instance { IfOk result (λ yes. IsTrue yes
         ↔ IsInstanceOf (rule_of row) (map (statement (trees_in pool.old.nodes)) judgments.now)) }
-    ensures nodes { pool.new.nodes ≡ pool.old.nodes }
+    ensures known { OnOk result (IsKnown pool.new.nodes known.new) }
+    ensures grows { Grows pool.old.nodes pool.new.nodes }
     ensures pool { IsPool pool.old.nodes }
 {
     let mark = pool.mark();
@@ -192,6 +231,7 @@ fn is_instance(
     are_met(
         alloc,
         pool,
+        known,
         row.conditions(),
         &finding.letters,
         finding.name,

@@ -15,12 +15,12 @@ ghost use Rattle.rz_pool.specs.Pool.{Grows, IsPool};
 ghost use Rattle.rz_subst.specs.Walk.{IsAnswerOf};
 ghost use Rattle.rz_kernel_rows.specs.Context.{IsAt, IsEntryAt, entries_over, entry_over};
 ghost use Rattle.rz_kernel_rows.specs.Line.{IsJudgmentOver};
-ghost use Rattle.rz_kernel_rows.specs.Move.{AllowsNoPoint, AllowsNoTerm, AllowsPoint, AllowsTerm, AreAnswersOf, IsConclusion, IsEntryBefore, IsEqualityOf, IsExtended, IsHeld, IsJudgmentFor, IsNoContext, IsNoEquality, IsNotRemoved, IsRemoval, IsRemovedBy, IsThere, changes_of, kind_of_entry, with_id};
+ghost use Rattle.rz_kernel_rows.specs.Move.{AllowsNoPoint, AllowsNoTerm, AllowsPoint, AllowsTerm, AreAnswersOf, IsConclusion, IsEntryBefore, IsEqualityOf, IsExtended, IsHeld, IsJudgmentFor, IsNoContext, IsNoEquality, IsNotRemoved, IsRemoval, IsRemovedBy, IsThere, changes_of};
 
-use crate::contexts::{Entry, Last, cut_before, deeper, last_entry, split_at};
-use crate::points::three_kids;
+use crate::contexts::{cut_before, split_at};
 use rz_pool::{Counts, Pool};
 use rz_rules::{Judgment, Kids, Kind, Name, Node, OutOfMemory, Scheme, Space};
+use rz_scope::{Entry, Last, deeper, last_entry, three_kids};
 use std::alloc::Global;
 
 /// What becomes of the variables that are bound outside of a cut.
@@ -40,30 +40,6 @@ struct Extended {
     context: u64,
     /// What the inner entries bind.
     depth: Counts,
-}
-
-impl Entry {
-    /// The kind of a context whose last entry it is.
-    fn kind(self) -> Kind
-        ensures { result ≡ kind_of_entry self }
-    {
-        match self {
-            Entry::Cube(_) => Kind::CubeEntry,
-            Entry::Tope(_) => Kind::TopeEntry,
-            Entry::Term(_) => Kind::TermEntry,
-        }
-    }
-
-    /// An entry of the same sort with another tree.
-    fn with_tree(self, id: u64) -> Entry
-        ensures { result ≡ with_id self id }
-    {
-        match self {
-            Entry::Cube(_) => Entry::Cube(id),
-            Entry::Tope(_) => Entry::Tope(id),
-            Entry::Term(_) => Entry::Term(id),
-        }
-    }
 }
 
 /// The id of a tree that stands at a depth behind the cut, where the variables outside of it change; `None` where an

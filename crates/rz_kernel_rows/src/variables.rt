@@ -1,52 +1,40 @@
 //! What the entries of a context give.
 
-ghost use Rattle.std.specs.Prelude.{◌≡◌, ◌<◌, [], ◌∷◌, length, map, All, IfOk};
+ghost use Rattle.std.specs.Prelude.{◌<◌, [], ◌∷◌, length, map, All, IfOk, OnOk};
 ghost use Rattle.rz_rules.specs.declared.kinds.Sort.TheVariants.{Context, Term};
-ghost use Rattle.rz_rules.specs.Context.{depth_of as depth_of_entries};
 ghost use Rattle.rz_rules.specs.Judgment.{statement};
 ghost use Rattle.rz_rules.specs.Structural.{IsHypothesis, IsVariable, TypesVariable, formed, term_variable};
 ghost use Rattle.rz_rules.specs.Tree.{tree_of, trees_in};
-ghost use Rattle.rz_pool.specs.Counts.{depth_of as depth_of_counts};
 ghost use Rattle.rz_pool.specs.Pool.{Grows, IsPool};
-ghost use Rattle.rz_kernel_rows.specs.Context.{IsAt, entries_over};
+ghost use Rattle.rz_scope.specs.Knowledge.{IsKnown};
+ghost use Rattle.rz_kernel_rows.specs.Context.{IsAt};
 ghost use Rattle.rz_kernel_rows.specs.Line.{IsJudgmentOver};
 ghost use Rattle.rz_kernel_rows.specs.Move.{IsConclusion, IsConclusionFor, IsTypeFor};
 
-use crate::contexts::{Entry, deeper, split_at, split_at_term};
-use rz_pool::{Counts, Pool};
+use rz_pool::Pool;
 use rz_rules::{Judgment, Kind, OutOfMemory};
+use rz_scope::{Entry, Knowledge, Measure, deeper};
 use std::alloc::Global;
-
-/// What these entries bind together. The first of them stands innermost.
-fn depth_of(inner: &[Entry]) -> Result<Counts, OutOfMemory>
-    ensures { IfOk result (λ depth. (nodes : _)
-        → depth_of_counts depth ≡ depth_of_entries (entries_over nodes inner.now)) }
-{
-    let mut depth = Counts::NONE;
-    let mut left = inner;
-    while let Some((entry, others)) = left.split_last() {
-        depth = deeper(depth, *entry)?;
-        left = others;
-    }
-    Ok(depth)
-}
 
 /// That the tope of the entry with this number holds, where the premises say that the context is formed.
 pub fn hypothesis(
     alloc: Global,
     pool: &mut Pool,
+    known: &mut Knowledge,
     number: u64,
     premises: &[Judgment],
 ) -> Result<Option<Judgment>, OutOfMemory>
     requires pool { IsPool pool.old.nodes }
+    requires known { IsKnown pool.old.nodes known.old }
     requires premises { All (IsJudgmentOver pool.old.nodes) premises.now }
     ensures concludes { IfOk result (IsConclusion pool.new.nodes
         (IsHypothesis number (map (statement (trees_in pool.old.nodes)) premises.now))) }
+    ensures known { OnOk result (IsKnown pool.old.nodes known.new) }
     ensures grows { Grows pool.old.nodes pool.new.nodes }
     ensures pool { IsPool pool.new.nodes }
 {
     match premises {
-        [premise] => hypothesis_by(alloc, pool, number, *premise),
+        [premise] => hypothesis_by(alloc, pool, known, number, *premise),
         _ => Ok(None),
     }
 }
@@ -55,18 +43,21 @@ pub fn hypothesis(
 fn hypothesis_by(
     alloc: Global,
     pool: &mut Pool,
+    known: &mut Knowledge,
     number: u64,
     premise: Judgment,
 ) -> Result<Option<Judgment>, OutOfMemory>
     requires pool { IsPool pool.old.nodes }
+    requires known { IsKnown pool.old.nodes known.old }
     requires premise { IsJudgmentOver pool.old.nodes premise }
     ensures concludes { IfOk result (IsConclusion pool.new.nodes
         (IsHypothesis number (statement (trees_in pool.old.nodes) premise ∷ []))) }
+    ensures known { OnOk result (IsKnown pool.old.nodes known.new) }
     ensures grows { Grows pool.old.nodes pool.new.nodes }
     ensures pool { IsPool pool.new.nodes }
 {
     match premise {
-        Judgment::Formed { c } => hypothesis_in(alloc, pool, number, c),
+        Judgment::Formed { c } => hypothesis_in(alloc, pool, known, number, c),
         _ => Ok(None),
     }
 }
@@ -75,24 +66,26 @@ fn hypothesis_by(
 fn hypothesis_in(
     alloc: Global,
     pool: &mut Pool,
+    known: &mut Knowledge,
     number: u64,
     context: u64,
 ) -> Result<Option<Judgment>, OutOfMemory>
     requires pool { IsPool pool.old.nodes }
+    requires known { IsKnown pool.old.nodes known.old }
     requires context { IsAt pool.old.nodes Context context }
     ensures concludes { IfOk result (IsConclusion pool.new.nodes
         (IsHypothesis number (formed (tree_of pool.old.nodes context) ∷ []))) }
+    ensures known { OnOk result (IsKnown pool.old.nodes known.new) }
     ensures grows { Grows pool.old.nodes pool.new.nodes }
     ensures pool { IsPool pool.new.nodes }
 {
-    let Some(split) = split_at(alloc, pool, context, number)? else {
+    let Some(found) = known.find(pool, context, Measure::Entries, number)? else {
         return Ok(None);
     };
-    let Entry::Tope(tope) = split.at.entry else {
+    let Entry::Tope(tope) = found.last.entry else {
         return Ok(None);
     };
-    let depth = depth_of(&split.inner)?;
-    match rz_subst::weaken(alloc, pool, tope, depth)? {
+    match rz_subst::weaken(alloc, pool, tope, found.depth)? {
         Some(phi) => Ok(Some(Judgment::Holds { c: context, phi })),
         None => Ok(None),
     }
@@ -102,21 +95,24 @@ fn hypothesis_in(
 pub fn variable_type(
     alloc: Global,
     pool: &mut Pool,
+    known: &mut Knowledge,
     context: u64,
     term: u64,
 ) -> Result<Option<u64>, OutOfMemory>
     requires pool { IsPool pool.old.nodes }
+    requires known { IsKnown pool.old.nodes known.old }
     requires context { context < length pool.old.nodes }
     requires term { IsAt pool.old.nodes Term term }
     ensures typed { IfOk result (IsTypeFor pool.new.nodes
         (IsVariable (tree_of pool.old.nodes context) (tree_of pool.old.nodes term))) }
+    ensures known { OnOk result (IsKnown pool.old.nodes known.new) }
     ensures grows { Grows pool.old.nodes pool.new.nodes }
     ensures pool { IsPool pool.new.nodes }
 {
     let node = pool.node(term);
     let index = node.number;
     match node.kind {
-        Kind::TermVariable => type_at(alloc, pool, context, index),
+        Kind::TermVariable => type_at(alloc, pool, known, context, index),
         _ => Ok(None),
     }
 }
@@ -125,41 +121,47 @@ pub fn variable_type(
 fn type_at(
     alloc: Global,
     pool: &mut Pool,
+    known: &mut Knowledge,
     context: u64,
     index: u64,
 ) -> Result<Option<u64>, OutOfMemory>
     requires pool { IsPool pool.old.nodes }
+    requires known { IsKnown pool.old.nodes known.old }
     requires context { context < length pool.old.nodes }
     ensures typed { IfOk result (IsTypeFor pool.new.nodes
         (IsVariable (tree_of pool.old.nodes context) (term_variable index))) }
+    ensures known { OnOk result (IsKnown pool.old.nodes known.new) }
     ensures grows { Grows pool.old.nodes pool.new.nodes }
     ensures pool { IsPool pool.new.nodes }
 {
-    let Some(split) = split_at_term(alloc, pool, context, index)? else {
+    let Some(found) = known.find(pool, context, Measure::Terms, index)? else {
         return Ok(None);
     };
-    let depth = deeper(depth_of(&split.inner)?, split.at.entry)?;
-    rz_subst::weaken(alloc, pool, split.at.entry.tree(), depth)
+    let depth = deeper(found.depth, found.last.entry)?;
+    rz_subst::weaken(alloc, pool, found.last.entry.tree(), depth)
 }
 
 /// That the variable of which a judgment speaks has its type, where the premises say that the context is formed.
 pub fn variable(
     alloc: Global,
     pool: &mut Pool,
+    known: &mut Knowledge,
     says: Judgment,
     premises: &[Judgment],
 ) -> Result<Option<Judgment>, OutOfMemory>
     requires pool { IsPool pool.old.nodes }
+    requires known { IsKnown pool.old.nodes known.old }
     requires says { IsJudgmentOver pool.old.nodes says }
     requires premises { All (IsJudgmentOver pool.old.nodes) premises.now }
     ensures concludes { IfOk result (IsConclusionFor pool.new.nodes
         (statement (trees_in pool.old.nodes) says)
         (TypesVariable (map (statement (trees_in pool.old.nodes)) premises.now))) }
+    ensures known { OnOk result (IsKnown pool.old.nodes known.new) }
     ensures grows { Grows pool.old.nodes pool.new.nodes }
     ensures pool { IsPool pool.new.nodes }
 {
     match premises {
-        [premise] => variable_by(alloc, pool, says, *premise),
+        [premise] => variable_by(alloc, pool, known, says, *premise),
         _ => Ok(None),
     }
 }
@@ -168,15 +170,18 @@ pub fn variable(
 fn variable_by(
     alloc: Global,
     pool: &mut Pool,
+    known: &mut Knowledge,
     says: Judgment,
     premise: Judgment,
 ) -> Result<Option<Judgment>, OutOfMemory>
     requires pool { IsPool pool.old.nodes }
+    requires known { IsKnown pool.old.nodes known.old }
     requires says { IsJudgmentOver pool.old.nodes says }
     requires premise { IsJudgmentOver pool.old.nodes premise }
     ensures concludes { IfOk result (IsConclusionFor pool.new.nodes
         (statement (trees_in pool.old.nodes) says)
         (TypesVariable (statement (trees_in pool.old.nodes) premise ∷ []))) }
+    ensures known { OnOk result (IsKnown pool.old.nodes known.new) }
     ensures grows { Grows pool.old.nodes pool.new.nodes }
     ensures pool { IsPool pool.new.nodes }
 {
@@ -186,7 +191,7 @@ fn variable_by(
     let Judgment::Has { a, .. } = says else {
         return Ok(None);
     };
-    match variable_type(alloc, pool, c, a)? {
+    match variable_type(alloc, pool, known, c, a)? {
         Some(of) => Ok(Some(Judgment::Has { c, a, of })),
         None => Ok(None),
     }

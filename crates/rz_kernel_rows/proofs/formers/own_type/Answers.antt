@@ -1,5 +1,7 @@
 use Rattle.std.proofs.Common.{ap, sym, ◌∙◌}
 use Rattle.rz_rules.specs.Tree.{kind_at, tree_of}
+use Rattle.rz_scope.specs.Knowledge.{IsKnown}
+use Rattle.rz_kernel_rows.proofs.Concluding.{anyway}
 use Rattle.rz_kernel_rows.proofs.Owning.{own_former, own_variable, types_alike}
 use Rattle.rz_kernel_rows.proofs.formers.own_type.Goals as goal
 
@@ -15,6 +17,7 @@ returns-in_default c =
     record {
       typed = types_alike c.former_type.result c.former_type.new.pool.nodes _ _
           (own_former (tree_of ns c.args.context) (tree_of ns c.args.term) (λ kind. c.in_default.not-TermVariable (sym (ap kind_at c.node.ensures.tree) ∙ kind))) c.former_type.ensures.typed;
+      known = anyway c.former_type.result (IsKnown ns c.args.known.now) c.requires.known;
       grows = c.former_type.ensures.grows;
       pool = c.former_type.ensures.pool;
     }

@@ -1,5 +1,5 @@
 use Rattle.std.proofs.Common.{ℕ, List, ◌++◌, ◌∷◌, [], sym, ap, subst, ◌∙◌}
-use Rattle.rz_kernel_rows.specs.Scope.{IsStep}
+use Rattle.rz_kernel_rows.specs.Leaves.{IsStep}
 use Rattle.rz_kernel_rows.proofs.Cubes.{product_step, leaf_step}
 use Rattle.rz_kernel_rows.proofs.leaves.counted.Goals as goal
 

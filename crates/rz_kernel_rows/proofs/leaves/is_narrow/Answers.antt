@@ -1,5 +1,5 @@
 use Rattle.std.proofs.Common.{ℕ, List, sym, subst, arith}
-use Rattle.rz_kernel_rows.specs.Scope.{IsStep}
+use Rattle.rz_kernel_rows.specs.Leaves.{IsStep}
 use Rattle.rz_kernel_rows.proofs.Cubes.{leaves_of-some}
 use Rattle.rz_kernel_rows.proofs.leaves.is_narrow.Goals as goal
 

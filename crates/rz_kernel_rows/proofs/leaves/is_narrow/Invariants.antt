@@ -1,7 +1,7 @@
 use Rattle.std.proofs.Common.{◌≡◌, ◌<◌, ◌≤◌, ◌+◌, ◌-◌, ◌*◌, length, All}
 use Rattle.rz_rules.specs.Tree.{tree_of}
 use Rattle.rz_rules.specs.Cube.{leaves}
-use Rattle.rz_kernel_rows.specs.Scope.{leaves_of}
+use Rattle.rz_kernel_rows.specs.Leaves.{leaves_of}
 use Rattle.rz_kernel_rows.proofs.leaves.is_narrow.Given as goal
 
 -- the leaves that were counted and those that wait are all

@@ -4,6 +4,7 @@ use Rattle.rz_rules.specs.declared.nodes.Node.{Node}
 use Rattle.rz_rules.specs.declared.symbols.Condition.{Condition}
 use Rattle.rz_rules.specs.Derivation.{IsMet}
 use Rattle.rz_rules.specs.Table.{rule_of}
+use Rattle.rz_scope.specs.Knowledge.{IsKnown}
 use Rattle.rz_spell.specs.Letters.{IsFound, assignment_of}
 use Rattle.rz_kernel_rows.specs.Line.{letters_of}
 use Rattle.rz_kernel_rows.proofs.Spelled.{by_iff, conditions_found, letters_are, met_iff, not_spelled, restored}
@@ -35,6 +36,7 @@ are_met-requires c =
           (subst (λ (letters : List (Option ℕ)). All (λ condition. All (IsFound c.release.new.self.nodes letters) (letters_of condition)) (rule_of c.args.row).conditions) (sym c.deref.ensures.value)
           (subst (λ (nodes : List Node). All (λ condition. All (IsFound nodes c.in-Some.finding.letters.items) (letters_of condition)) (rule_of c.args.row).conditions) (sym same)
           (conditions_found ns c.args.row c.in-Some.finding.letters.items c.in-Some.finding.name are)));
+      known = subst (λ (nodes : List Node). IsKnown nodes c.args.known.now) (sym same) c.requires.known;
     }
 
 pub returns-clause-instance : goal.returns-clause-instance

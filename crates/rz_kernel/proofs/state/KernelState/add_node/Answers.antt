@@ -1,6 +1,7 @@
 use Rattle.std.proofs.Common.{◌<◌, ℕ, sym, subst, length, All, arith}
 use Rattle.std.proofs.lemmas.List.Elements.{All-push}
 use Rattle.rz_pool.proofs.Nodes.{length-Grows}
+use Rattle.rz_scope.proofs.Growing.{IsKnown-Grows}
 use Rattle.rz_kernel.proofs.Adding.{state_with_tree, lines_over}
 use Rattle.rz_kernel.proofs.state.KernelState.add_node.Goals as goal
 
@@ -21,4 +22,5 @@ returns-clause-state c =
           (All-push (λ (place : ℕ). place < length c.make.new.self.nodes) state.places.items c.in_ok-place.place
           (λ k d lt. omega (arith, longer, c.requires.state.places k d lt)) made.within);
       lines = lines_over state.pool.nodes c.make.new.self.nodes made.grows longer state.lines.items c.requires.state.lines;
+      known = IsKnown-Grows state.pool.nodes c.make.new.self.nodes made.grows state.known c.requires.state.known;
     }

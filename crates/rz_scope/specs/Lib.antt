@@ -1,0 +1,4 @@
+pub mod Entry
+pub mod Cubes
+pub mod Place
+pub mod Knowledge
