@@ -16,4 +16,6 @@ mod row_tests;
 #[cfg(test)]
 mod structural_tests;
 #[cfg(test)]
+mod table_tests;
+#[cfg(test)]
 mod tests;
