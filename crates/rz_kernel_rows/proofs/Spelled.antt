@@ -20,7 +20,8 @@ use Rattle.rz_spell.proofs.Putting.{statements-Grows}
 use Rattle.rz_spell.proofs.Stacks.{length-Grows}
 use Rattle.rz_kernel_rows.specs.Finding.{FindsAll, IsFinding, is_determined}
 use Rattle.rz_kernel_rows.specs.Line.{IsInstanceOf, IsJudgmentOver, letters_of}
-use Rattle.rz_kernel_rows.proofs.Instances.{AreStatements-over, SameLetter, conditions_same, found_letters, letters_have_sorts, of_row, rows_are_determined, same_spelling}
+use Rattle.rz_kernel_rows.proofs.Instances.{SameLetter, conditions_same, found_letters, of_row, rows_are_determined, same_spelling}
+use Rattle.rz_spell.proofs.Over.{AreStatements-over, letters_have_sorts}
 
 -- ---- judgments by their ids
 

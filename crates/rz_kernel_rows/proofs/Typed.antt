@@ -27,7 +27,8 @@ use Rattle.rz_spell.specs.Spelling.{AreLetters, IsTooHigh, IsNamed}
 use Rattle.rz_kernel_rows.specs.Finding.{FindsSubject, HasNoSubject, IsFinding, SpeaksOf, last_words, subject_determines}
 use Rattle.rz_kernel_rows.specs.Line.{IsJudgmentOver}
 use Rattle.rz_kernel_rows.specs.Typing.{AreTyping, HasNoTyping, IsTypingOf}
-use Rattle.rz_kernel_rows.proofs.Instances.{AreStatements-over, letters_have_sorts, same_spelling}
+use Rattle.rz_kernel_rows.proofs.Instances.{same_spelling}
+use Rattle.rz_spell.proofs.Over.{AreStatements-over, letters_have_sorts}
 
 -- ---- the table
 

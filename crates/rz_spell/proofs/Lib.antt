@@ -4,3 +4,4 @@ pub mod Putting
 pub mod Substituting
 pub mod Judging
 pub mod Whole
+pub mod Over

@@ -8,7 +8,7 @@ use Rattle.rz_rules.specs.Tree.{trees_in}
 use Rattle.rz_scope.proofs.Growing.{same_tree, same_trees}
 use Rattle.rz_kernel_rows.specs.Line.{IsJudgmentOver, said}
 use Rattle.rz_kernel_rows.proofs.Following.{no_premises, premises_low, step_iff}
-use Rattle.rz_kernel_rows.proofs.Instances.{IsStatement-over}
+use Rattle.rz_spell.proofs.Over.{IsStatement-over}
 use Rattle.rz_kernel_rows.proofs.Spelled.{by_iff}
 use Rattle.rz_kernel_rows.proofs.lines.follows_with.Goals as goal
 

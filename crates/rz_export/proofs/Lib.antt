@@ -1,0 +1,10 @@
+mod Listing
+mod Places
+mod Runs
+mod Numbering
+mod Following
+mod Filing
+mod Needing
+mod Vain
+mod Pushes
+mod Searches

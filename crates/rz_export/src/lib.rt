@@ -1,0 +1,13 @@
+//! A world as a derivation file: what some of its steps rest on, and nothing else.
+#![tactic(auto)]
+
+mod claims;
+mod extract;
+mod moves;
+mod needs;
+
+pub use claims::Claimed;
+pub use extract::export;
+
+#[cfg(test)]
+mod tests;

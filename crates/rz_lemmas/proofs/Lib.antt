@@ -1,0 +1,4 @@
+pub mod Slots
+pub mod Instances
+mod Walking
+mod Moving

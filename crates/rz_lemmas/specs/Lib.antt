@@ -1,0 +1,4 @@
+pub mod Letters
+pub mod Conclude
+pub mod Behind
+pub mod Moves

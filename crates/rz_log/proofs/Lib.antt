@@ -1,0 +1,5 @@
+mod Firsts
+mod Logs
+pub mod Worlds
+mod Reaching
+pub mod Derived

@@ -1,0 +1,5 @@
+pub mod Log
+pub mod Index
+pub mod Reachable
+pub mod World
+pub mod Entail
