@@ -1,6 +1,6 @@
 -- Worlds that grow, and such that are taken back.
 use Rattle.std.proofs.Common.{◌≡◌, ℕ, ◌<◌, ◌≤◌, List, [], ◌∷◌, ◌++◌, Some, length, take, map, All, slice_get, refl, sym, ap, subst, ◌∙◌, append_assoc, arith}
-use Rattle.std.proofs.lemmas.List.{append-nil, length-take, map-append}
+use Rattle.std.proofs.lemmas.List.{append-nil, length-take, map-append, take-append-le}
 use Rattle.std.proofs.lemmas.List.Elements.{All-head, All-tail, All-take}
 use Rattle.std.proofs.lemmas.Option.{slice_get_within, get_or_from_slice_get}
 use Rattle.rz_rules.specs.declared.nodes.Node.{Node}
@@ -12,11 +12,12 @@ use Rattle.rz_rules.specs.Derivation.{Follows, Step}
 use Rattle.rz_pool.specs.Pool as pool
 use Rattle.rz_pool.specs.Pool.{Contents, IsPool}
 use Rattle.rz_pool.proofs.Nodes.{Grows-same, Grows-trans, KeepsTrees-Grows, KeepsTrees-take, length-Grows, slice_get-append}
+use Rattle.rz_log.specs.declared.world.Mark.{Mark}
 use Rattle.rz_log.specs.declared.world.World.{World}
 use Rattle.rz_log.proofs.Firsts.{at_end}
 use Rattle.rz_log.proofs.Logs.{length_statements, sound_take}
 use Rattle.rz_log.specs.Log.{AreBelow, IsBelow, IsSoundLog, judgments_of, statements_of, step_of}
-use Rattle.rz_log.specs.World.{Grows, IsSound, Says}
+use Rattle.rz_log.specs.World.{EndsBelow, Grows, IsSound, Says}
 
 module _ (old new : List Node) (bound : ℕ) (same : (id : ℕ) → id < bound → tree_of new id ≡ tree_of old id) where
   -- the trees of some ids
@@ -123,3 +124,8 @@ pub sound_released : (nodes : List Node) (lines : List Line) (bound count : ℕ)
 sound_released nodes lines bound count within below sound =
     sound_kept nodes (take bound nodes) bound (KeepsTrees-take nodes bound bound (omega arith) within) (take count lines)
     (omega (arith, length-take bound nodes)) below (sound_take nodes lines count sound)
+
+-- a mark of a world stays one as the world grows
+pub mark_stays : (old new : World) (mark : Mark) → Grows old new → mark.lines ≤ length old.log → EndsBelow old mark → EndsBelow new mark
+mark_stays old new mark grows within below =
+    subst (AreBelow mark.nodes) (sym (ap (take mark.lines) grows.lines ∙ take-append-le mark.lines old.log grows.added within)) below

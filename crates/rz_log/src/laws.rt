@@ -1,10 +1,11 @@
 //! What each step of a sound world keeps. A function of this file does nothing: its clause is the law.
 
-ghost use Rattle.std.specs.Prelude.{ℕ};
+ghost use Rattle.std.specs.Prelude.{ℕ, ◌≤◌, length};
 ghost use Rattle.rz_rules.specs.Judgment.{Statement};
 ghost use Rattle.rz_laws.specs.Derivation.{Derives};
 ghost use Rattle.rz_laws.specs.Scope.{IsScopedStatement};
-ghost use Rattle.rz_log.specs.World.{Grows, IsSound, Says};
+ghost use Rattle.rz_log.specs.World.{EndsBelow, Grows, IsSound, Says};
+ghost use Rattle.rz_log.specs.declared.world.Mark.{Mark};
 ghost use Rattle.rz_log.specs.declared.world.World.{World};
 
 /// Whatever a step of a sound world says is derived.
@@ -25,4 +26,11 @@ pub fn scoping()
 pub fn growth()
     ensures { (old new : World) (step : ℕ) (says : Statement) → IsSound old → Grows old new
         → Says old step says → Says new step says }
+{}
+
+/// A mark that was taken of a world stays one to which it can be taken back: as the world grows, no
+/// line before the mark comes to name a node from the mark on.
+pub fn marks()
+    ensures { (old new : World) (mark : Mark) → Grows old new → mark.lines ≤ length old.log
+        → EndsBelow old mark → EndsBelow new mark }
 {}

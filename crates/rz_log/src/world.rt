@@ -1,11 +1,11 @@
 //! A pool and a log over it.
 
-ghost use Rattle.std.specs.Prelude.{◌≡◌, ◌≤◌, [], length, take, IfOk};
+ghost use Rattle.std.specs.Prelude.{◌≡◌, ◌≤◌, ◌∷◌, ◌++◌, [], length, take, IfOk, OnOk};
 ghost use Rattle.rz_rules.specs.Derivation.{Follows};
 ghost use Rattle.rz_rules.specs.Judgment.{statement};
 ghost use Rattle.rz_rules.specs.Tree.{trees_in};
 ghost use Rattle.rz_log.specs.Log.{IsLineOver, step_of};
-ghost use Rattle.rz_log.specs.World.{EndsBelow, Grows, IsSound, Says, statements_in};
+ghost use Rattle.rz_log.specs.World.{Adds, EndsBelow, Grows, IsSound, Says, statements_in};
 
 use crate::log::Log;
 use rz_pool::{HashKey, Pool};
@@ -57,12 +57,16 @@ impl World {
             (step_of self.old.pool.nodes line) }
         ensures says { IfOk result (λ step. Says self.new step
             (statement (trees_in self.old.pool.nodes) line.says)) }
+        ensures adds { IfOk result (Adds self.old.log line self.new.log) }
         ensures nodes { self.new.pool.nodes ≡ self.old.pool.nodes }
         ensures grows { Grows self.old self.new }
     {
         match self.log.find(line.says) {
             Some(step) => Ok(step),
-            None => self.push(line),
+            None => {
+                let step = self.push(line)?;
+                Ok(step)
+            }
         }
     }
 
@@ -74,6 +78,8 @@ impl World {
             (step_of self.old.pool.nodes line) }
         ensures says { IfOk result (λ step. Says self.new step
             (statement (trees_in self.old.pool.nodes) line.says)) }
+        ensures step { IfOk result (λ step. step ≡ length self.old.log) }
+        ensures lines { OnOk result (self.new.log ≡ self.old.log ++ line ∷ []) }
         ensures nodes { self.new.pool.nodes ≡ self.old.pool.nodes }
         ensures grows { Grows self.old self.new }
     {
