@@ -1,0 +1,12 @@
+pub mod Assuming
+pub mod Conjoining
+pub mod Leaves
+pub mod Lists
+pub mod Orders
+pub mod PartStatuses
+pub mod RankOrders
+pub mod Refuting
+pub mod Searching
+pub mod Showing
+pub mod Tables
+pub mod Values

@@ -1,0 +1,9 @@
+pub mod Asked
+pub mod Branch
+pub mod Conjunct
+pub mod Search
+pub mod Searching
+pub mod Showing
+pub mod Solving
+pub mod Status
+pub mod Table

@@ -1,0 +1,9 @@
+pub mod Normal
+pub mod Placed
+pub mod Later
+pub mod Norm
+pub mod Read
+pub mod Hypothesis
+pub mod Equation
+pub mod Reader
+pub mod Sequent

@@ -1,0 +1,9 @@
+pub mod Forming
+pub mod Following
+pub mod Saying
+pub mod Proved
+pub mod Jobs
+pub mod Cases
+pub mod Given
+pub mod Writes
+pub mod Values

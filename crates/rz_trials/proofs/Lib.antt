@@ -1,0 +1,3 @@
+mod Picking
+mod Computing
+pub mod Asking
