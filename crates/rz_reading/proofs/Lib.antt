@@ -1,0 +1,11 @@
+pub mod Same
+pub mod Entailment
+pub mod Place
+pub mod Asks
+pub mod Steps
+pub mod Turns
+pub mod Depth
+mod Samples
+mod WorkedSteps
+mod WorkedRuns
+mod WorkedComparisons
