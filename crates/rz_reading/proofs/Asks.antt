@@ -1,4 +1,4 @@
--- A step asks at most three questions.
+-- A step asks for at most three comparisons.
 use Rattle.std.proofs.Common.{◌≡◌, ℕ, zero, suc, ◌+◌, ◌<◌, ◌≤◌, Bool, true, false, List, [], ◌∷◌, Option, Some, None, ap, arith}
 use Rattle.std.specs.Prelude.{if◌then◌else◌}
 use Rattle.rz_rules.specs.declared.kinds.Kind.TheVariants.{Constant, Application, First, Second, IdentityInduction, ExtensionApplication, RecOr}

@@ -7,7 +7,7 @@ use Rattle.rz_reading.specs.Entailment.{Entailment, Valid, Invalid, TooMany, at_
 use Rattle.rz_reading.specs.Views.{former}
 use Rattle.rz_reading.specs.Piece.{Question, Piece, Cubes, Topes, Points, Compared, entail_each_other, points_equal}
 use Rattle.rz_reading.specs.Step.{Redex, Normal, Contracts, Splits, Over, redex}
-use Rattle.rz_reading.specs.Outcome.{Comparison, Equal, Differ, Clashes, Limited, Outcome, Agreed, Fails, Apart, Clashing, Stops, outcome_of}
+use Rattle.rz_reading.specs.Outcome.{Comparison, Equal, Differ, Clashes, Limited, Outcome, Agreed, Fails, PointsFail, Clashing, Stops, outcome_of}
 use Rattle.rz_reading.specs.Run.{End, Reached, Divided, Clashed, Stopped, after_pieces, after_redex, run_for, step_limit, run}
 use Rattle.rz_reading.specs.Comparison.{immediate_answer, Reach, Answered, Under, Parts, Undecided, after_run, eta_pieces, by_normal_forms, reach, under, under_both, under_orders, by_outcome, conclusion, conversion}
 
@@ -45,8 +45,8 @@ module _ (low high : Question → Comparison) (keeps : KeepsAnswers low high) wh
   pieces_kept (Points C I s s' ∷ pieces) = by (pieces_kept pieces) (points_equal C I s s')
     where
       by : Kept (Stops Depth) (outcome_of low pieces) (outcome_of high pieces) → (x : Entailment) → Kept (Stops Depth)
-          (elim x [ Valid ↦ outcome_of low pieces | Invalid ↦ Apart s s' | TooMany count ↦ Stops Coordinates ])
-          (elim x [ Valid ↦ outcome_of high pieces | Invalid ↦ Apart s s' | TooMany count ↦ Stops Coordinates ])
+          (elim x [ Valid ↦ outcome_of low pieces | Invalid ↦ PointsFail s s' | TooMany count ↦ Stops Coordinates ])
+          (elim x [ Valid ↦ outcome_of high pieces | Invalid ↦ PointsFail s s' | TooMany count ↦ Stops Coordinates ])
       by rest Valid = rest
       by rest Invalid = inr refl
       by rest (TooMany count) = inr refl
@@ -72,7 +72,7 @@ module _ (low high : Question → Comparison) (keeps : KeepsAnswers low high) wh
       → (x : Outcome) → Kept (Stopped Depth) (after_pieces x tree on) (after_pieces x tree on')
   after_pieces_kept tree on on' further Agreed = further tree
   after_pieces_kept tree on on' further (Fails left right) = inr refl
-  after_pieces_kept tree on on' further (Apart left right) = inr refl
+  after_pieces_kept tree on on' further (PointsFail left right) = inr refl
   after_pieces_kept tree on on' further (Clashing left right) = inr refl
   after_pieces_kept tree on on' further (Stops limit) = inr refl
 
@@ -151,7 +151,7 @@ module _ (low high : Question → Comparison) (keeps : KeepsAnswers low high) wh
   outcome_kept : (q : Question) (x : Outcome) → Kept (Limited Depth) (by_outcome low q x) (by_outcome high q x)
   outcome_kept q Agreed = inr refl
   outcome_kept q (Fails left right) = inr refl
-  outcome_kept q (Apart left right) = under_orders_kept q
+  outcome_kept q (PointsFail left right) = under_orders_kept q
   outcome_kept q (Clashing left right) = inr refl
   outcome_kept q (Stops limit) = inr refl
 

@@ -6,7 +6,7 @@ use Rattle.rz_reading.specs.Same.{same_tree}
 use Rattle.rz_reading.specs.Entailment.{Entailment, Valid, Invalid, TooMany}
 use Rattle.rz_reading.specs.Piece.{Question, Piece, Cubes, Topes, Points, Compared, entail_each_other, points_equal}
 use Rattle.rz_reading.specs.Step.{Redex, Normal, Contracts, Splits, Over, redex, Next, AllAgree, Compare, Disagree, PointsDisagree, TooWide, next_piece, step_by_next, step_by_redex, Step, New, Ask, Split, Clash, Wide, NoStep, step}
-use Rattle.rz_reading.specs.Outcome.{Comparison, Equal, Differ, Clashes, Limited, Outcome, Fails, Apart, Clashing, Stops, outcome_of}
+use Rattle.rz_reading.specs.Outcome.{Comparison, Equal, Differ, Clashes, Limited, Outcome, Fails, PointsFail, Clashing, Stops, outcome_of}
 use Rattle.rz_reading.specs.Run.{End, at_limit, after_pieces, after_redex, run_for}
 use Rattle.rz_reading.specs.Turn.{remainder, after_comparison, after_next, after_outcome, redex_left, run_from, after_ask, after_step, EndsRun, StepsTo}
 
@@ -40,9 +40,9 @@ module _ (below : Question → Comparison) where
   by_topes (TooMany count) phi phi' one other next e = refl
 
   by_points : (x : Entailment) (s s' : Tree) (one other : Outcome) (next : Next) → one ≡ after_next below next other
-      → elim x [ Valid ↦ one | Invalid ↦ Apart s s' | TooMany count ↦ Stops Coordinates ]
+      → elim x [ Valid ↦ one | Invalid ↦ PointsFail s s' | TooMany count ↦ Stops Coordinates ]
       ≡ after_next below (elim x [ Valid ↦ next | Invalid ↦ PointsDisagree s s' | TooMany count ↦ TooWide count ])
-      (elim x [ Valid ↦ other | Invalid ↦ Apart s s' | TooMany count ↦ Stops Coordinates ])
+      (elim x [ Valid ↦ other | Invalid ↦ PointsFail s s' | TooMany count ↦ Stops Coordinates ])
   by_points Valid s s' one other next e = e
   by_points Invalid s s' one other next e = refl
   by_points (TooMany count) s s' one other next e = refl
@@ -175,7 +175,7 @@ module _ (below : Question → Comparison) where
       (outcome_of below (pieces ++ more)) (outcome_of below pieces) (outcome_of below more)
       refl (outcome-append pieces more)
   outcome-append (Points C I s s' ∷ pieces) more =
-      topes_append (points_equal C I s s') (Apart s s') (outcome_of below (pieces ++ more)) (outcome_of below pieces) (outcome_of below more)
+      topes_append (points_equal C I s s') (PointsFail s s') (outcome_of below (pieces ++ more)) (outcome_of below pieces) (outcome_of below more)
       refl (outcome-append pieces more)
   outcome-append (Compared q ∷ pieces) more =
       comparison_append q (below q) (outcome_of below (pieces ++ more)) (outcome_of below pieces) (outcome_of below more) (outcome-append pieces more)

@@ -2,7 +2,7 @@
 -- The clauses, in their order: one tree, and a context that can't be (`immediate_answer`); no depth (`conversion`); the type
 -- (`reach`); eta (`eta_pieces`); normal forms (`by_normal_forms`); two of one former (`former_pieces`); two stuck terms
 -- (`stuck_pieces`); orders (`under_orders`). The first clause that speaks of the two terms answers, and of the pieces that it
--- compares the first that isn't Equal.
+-- compares the first that isn't Equal; points that disagree lead on to the orders.
 use Rattle.std.specs.Prelude.{ℕ, zero, suc, Bool, true, false, List, [], ◌∷◌, Option, Some, None}
 use Rattle.rz_rules.specs.declared.verdicts.Limit.TheVariants as limit
 use Rattle.rz_rules.specs.declared.kinds.Kind.TheVariants.{TermVariable, Postulate}
@@ -13,7 +13,7 @@ use Rattle.rz_reading.specs.Entailment.{Valid, Invalid, TooMany, entailment, bot
 use Rattle.rz_reading.specs.Terms.{application, first, second, extension_application, under_cube, under_tope, under_term, put_term, raised_term, raised_family, raised_point, raised_on_shape}
 use Rattle.rz_reading.specs.Views.{Former, FunctionType, PairType, IdentityType, ReflexivityTerm, ExtensionType, OnePointType, former, Spine, spine}
 use Rattle.rz_reading.specs.Piece.{Question, question, Piece, Compared, family, extension, asks, spine_pieces}
-use Rattle.rz_reading.specs.Outcome.{Comparison, Equal, Differ, Clashes, Limited, Outcome, Agreed, Fails, Apart, Clashing, Stops, outcome_of}
+use Rattle.rz_reading.specs.Outcome.{Comparison, Equal, Differ, Clashes, Limited, Outcome, Agreed, Fails, PointsFail, Clashing, Stops, outcome_of}
 use Rattle.rz_reading.specs.Run.{End, Reached, Divided, Clashed, Stopped, run}
 
 -- The clauses of one tree, and of a context whose topes can't all hold. They need no depth.
@@ -35,7 +35,7 @@ pub data Reach : Type 0 where
   Under : (first second : Tree) → Reach
   -- these pieces
   Parts : (pieces : List Piece) → Reach
-  -- the two terms as given, under the orders of two coordinates that are in none
+  -- the two terms as given, under the orders of a pair of coordinates that is in none; where there is none, they differ
   Undecided : Reach
 
 -- what is done with the tree that a run reaches; where it splits, so does the comparison
@@ -123,7 +123,7 @@ under_both below q phi psi =
       | Limited limit ↦ Limited limit
     ]
 
--- The clause of orders: a split by the two orders of the first two coordinates that are in none; else the two differ.
+-- The clause of orders: a split by the two orders of the first pair of coordinates that is in none; else the two differ.
 abbrev pub under_orders : (Question → Comparison) → Question → Comparison
 under_orders below q =
     elim (orders q.context) [
@@ -136,7 +136,7 @@ under_orders below q =
 abbrev pub by_outcome : (Question → Comparison) → Question → Outcome → Comparison
 by_outcome below q Agreed = Equal
 by_outcome below q (Fails left right) = Differ
-by_outcome below q (Apart left right) = under_orders below q
+by_outcome below q (PointsFail left right) = under_orders below q
 by_outcome below q (Clashing left right) = Clashes left right
 by_outcome below q (Stops limit) = Limited limit
 

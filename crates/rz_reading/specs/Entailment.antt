@@ -33,7 +33,7 @@ both_valid Valid second = second
 both_valid Invalid second = Invalid
 both_valid (TooMany count) second = TooMany count
 
--- of two questions: one of them is valid; the second counts only where the first is not
+-- of two questions: one of them is valid; the second counts only where the first is invalid
 abbrev pub either_valid : Entailment → Entailment → Entailment
 either_valid Valid second = Valid
 either_valid Invalid second = second
@@ -76,8 +76,8 @@ pairs [] = []
 pairs (s ∷ rest) = map (λ u. (s, u)) rest ++ pairs rest
 
 -- the coordinates of variables in the topes of a context, in order of first occurrence
-abbrev pub points_in : Tree → List Tree
-points_in context = map point_of (occurring context top)
+abbrev pub occurring_points : Tree → List Tree
+occurring_points context = map point_of (occurring context top)
 
 -- which two points are in neither order
 pub data Orders : Type 0 where
@@ -96,4 +96,4 @@ first_in_no_order context (pair ∷ rest) =
 
 -- the first pair of coordinates in the topes of a context of which neither is at most the other
 abbrev pub orders : Tree → Orders
-orders context = first_in_no_order context (pairs (points_in context))
+orders context = first_in_no_order context (pairs (occurring_points context))

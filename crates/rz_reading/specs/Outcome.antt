@@ -10,7 +10,7 @@ use Rattle.rz_reading.specs.Piece.{Question, Piece, Cubes, Topes, Points, Compar
 pub data Comparison : Type 0 where
   Equal : Comparison
   Differ : Comparison
-  -- a step met these two annotations, which differ
+  -- a step met two annotations that do not agree; these are the two sides of the piece that fails
   Clashes : (left right : Tree) → Comparison
   Limited : (limit : Limit) → Comparison
 
@@ -19,7 +19,7 @@ pub data Outcome : Type 0 where
   -- cubes, topes or terms don't agree
   Fails : (left right : Tree) → Outcome
   -- points don't
-  Apart : (left right : Tree) → Outcome
+  PointsFail : (left right : Tree) → Outcome
   -- a comparison clashes, or a limit is met
   Clashing : (left right : Tree) → Outcome
   Stops : (limit : Limit) → Outcome
@@ -38,7 +38,7 @@ outcome_of below (Topes C phi phi' ∷ pieces) =
 outcome_of below (Points C I s s' ∷ pieces) =
     elim (points_equal C I s s') [
       | Valid ↦ outcome_of below pieces
-      | Invalid ↦ Apart s s'
+      | Invalid ↦ PointsFail s s'
       | TooMany count ↦ Stops Coordinates
     ]
 outcome_of below (Compared q ∷ pieces) =

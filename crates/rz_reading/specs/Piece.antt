@@ -52,7 +52,7 @@ differs (Topes C left right) = not (same_tree left right)
 differs (Points C I left right) = not (same_tree left right)
 differs (Compared q) = not (same_tree q.left q.right)
 
--- The pieces without those that are one tree, of which nothing is asked. It stands for the annotations that a step meets
+-- The pieces without those that are one tree, of which nothing is asked. It is used for the annotations that a step meets
 -- and for two extension types alone: points and the parts of other formers are asked all the same.
 abbrev pub asks : List Piece → List Piece
 asks pieces = filter differs pieces

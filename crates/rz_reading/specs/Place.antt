@@ -6,7 +6,7 @@ use Rattle.rz_reading.specs.Terms.{put_point}
 use Rattle.rz_reading.specs.Views.{Eliminator, AppliedAt, whole, introduction}
 use Rattle.rz_reading.specs.Step.{meeting, Step, New, Ask, Split, Clash, Wide, NoStep}
 
--- where a function on a shape is applied to a point, the face is asked for the point, and isn't valid
+-- where a function on a shape is applied to a point, the face is asked for the point, and is invalid: neither valid nor too wide
 abbrev pub IsOffFace : Tree → Eliminator → Type 0
 IsOffFace C (AppliedAt I psi A phi a s) = entailment C (put_point s phi) ≡ Invalid
 IsOffFace C e = Unit {0}

@@ -5,14 +5,14 @@ use Rattle.rz_rules.specs.declared.verdicts.Limit.TheVariants.{Steps, Coordinate
 use Rattle.rz_rules.specs.Tree.{Tree}
 use Rattle.rz_reading.specs.Piece.{Question}
 use Rattle.rz_reading.specs.Step.{Redex, Normal, Contracts, Splits, Over, redex, Step, New, Ask, Split, Clash, Wide, NoStep, step}
-use Rattle.rz_reading.specs.Outcome.{Comparison, Outcome, Agreed, Fails, Apart, Clashing, Stops, outcome_of}
+use Rattle.rz_reading.specs.Outcome.{Comparison, Outcome, Agreed, Fails, PointsFail, Clashing, Stops, outcome_of}
 
 pub data End : Type 0 where
   -- the term is normal
   Reached : (tree : Tree) → End
   -- it splits
   Divided : (first second : Tree) → End
-  -- two annotations differ
+  -- two annotations do not agree; these are the two sides of the piece that fails
   Clashed : (left right : Tree) → End
   Stopped : (limit : Limit) → End
 
@@ -29,7 +29,7 @@ at_limit t NoStep = Reached t
 abbrev pub after_pieces : Outcome → Tree → (Tree → End) → End
 after_pieces Agreed tree on = on tree
 after_pieces (Fails left right) tree on = Clashed left right
-after_pieces (Apart left right) tree on = Clashed left right
+after_pieces (PointsFail left right) tree on = Clashed left right
 after_pieces (Clashing left right) tree on = Clashed left right
 after_pieces (Stops limit) tree on = Stopped limit
 
@@ -48,5 +48,6 @@ run_for below (suc left) C t = after_redex below t (redex C t) (λ tree. run_for
 unfoldable pub step_limit : ℕ
 step_limit = 100000
 
+-- a run; in a comparison at depth d + 1 the asks are answered at depth d
 abbrev pub run : (Question → Comparison) → Tree → Tree → End
 run below C t = run_for below step_limit C t

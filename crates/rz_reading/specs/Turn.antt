@@ -4,7 +4,7 @@ use Rattle.rz_rules.specs.declared.verdicts.Limit.TheVariants.{Coordinates}
 use Rattle.rz_rules.specs.Tree.{Tree}
 use Rattle.rz_reading.specs.Piece.{Question, Piece, Cubes, Topes, Points, Compared}
 use Rattle.rz_reading.specs.Step.{Next, AllAgree, Compare, Disagree, PointsDisagree, TooWide, Redex, Normal, Contracts, Splits, Over, redex, Step, New, Ask, Split, Clash, Wide, NoStep, step}
-use Rattle.rz_reading.specs.Outcome.{Comparison, Equal, Differ, Clashes, Limited, Outcome, Agreed, Fails, Apart, Clashing, Stops}
+use Rattle.rz_reading.specs.Outcome.{Comparison, Equal, Differ, Clashes, Limited, Outcome, Agreed, Fails, PointsFail, Clashing, Stops}
 use Rattle.rz_reading.specs.Run.{End, Reached, Divided, Clashed, Stopped, at_limit, after_redex, run_for}
 
 -- the pieces without the first so many that are compared
@@ -28,14 +28,14 @@ abbrev pub after_next : (Question → Comparison) → Next → Outcome → Outco
 after_next below AllAgree on = Agreed
 after_next below (Compare q) on = after_comparison q (below q) on
 after_next below (Disagree left right) on = Fails left right
-after_next below (PointsDisagree left right) on = Apart left right
+after_next below (PointsDisagree left right) on = PointsFail left right
 after_next below (TooWide count) on = Stops Coordinates
 
 -- where pieces agree, what those behind them come to
 abbrev pub after_outcome : Outcome → Outcome → Outcome
 after_outcome Agreed on = on
 after_outcome (Fails left right) on = Fails left right
-after_outcome (Apart left right) on = Apart left right
+after_outcome (PointsFail left right) on = PointsFail left right
 after_outcome (Clashing left right) on = Clashing left right
 after_outcome (Stops limit) on = Stops limit
 

@@ -36,9 +36,9 @@ pub fn questions()
 {}
 
 /// A step at the root of a term is the step at its place: where a term stands within eliminators,
-/// none of which is a function on a shape at a point of its face, and the innermost doesn't meet
-/// it, the whole has the term's step, with the same pieces and asks, and a new tree within the
-/// eliminators.
+/// and the innermost doesn't meet it, the whole has the term's step, with the same pieces and asks,
+/// and a new tree within the eliminators. At each function on a shape among the eliminators the
+/// face is asked for the point, and is invalid: neither valid nor too wide.
 ///
 /// What an eliminator makes meets no eliminator. Where the innermost meets the term, that is the
 /// step.
@@ -55,7 +55,7 @@ pub fn place()
         → redex C (whole t (e ∷ es)) ≡ inside es found }
 {}
 
-/// A step asks at most three questions.
+/// A step asks for at most three comparisons.
 pub fn asks()
     ensures { (C t : Tree) (answered : ℕ) (q : Question)
         → step C t answered ≡ Ask q → answered < 3 }
