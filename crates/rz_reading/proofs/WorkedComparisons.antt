@@ -1,13 +1,14 @@
--- Worked comparisons: each clause, both ways where it has two. Each is decided by computation, at depth 400 and with runs of
--- 100,000 steps where nothing else is said.
-use Rattle.std.proofs.Common.{◌≡◌, [], true, false, refl}
+-- Worked comparisons: each clause, with terms that are equal and terms that differ where it speaks of both. Each is decided by
+-- computation, at depth 400 and with runs of 100,000 steps where nothing else is said.
+use Rattle.std.proofs.Common.{◌≡◌, ℕ, [], ◌∷◌, true, false, refl}
 use Rattle.rz_rules.specs.declared.verdicts.Limit.TheVariants.{Depth, Coordinates}
-use Rattle.rz_rules.specs.declared.kinds.Kind.TheVariants.{PointLeft, PointRight}
+use Rattle.rz_rules.specs.declared.kinds.Kind.TheVariants.{PointLeft, PointRight, Postulate}
 use Rattle.rz_rules.specs.Tree.{Tree, At, Nil, And}
 use Rattle.rz_rules.specs.Structural.{universe, term_variable, equal_points}
 use Rattle.rz_reading.specs.Same.{same_tree}
 use Rattle.rz_reading.specs.Entailment.{top, bottom, at_most, point_variable, AllInOrder, InNoOrder, orders}
-use Rattle.rz_reading.specs.Terms.{pi, application, first, second, identity, reflexivity, induction, extension_application, under_cube, under_tope}
+use Rattle.rz_reading.specs.Terms.{pi, application, first, second, identity, reflexivity, induction, extension_application}
+use Rattle.rz_reading.specs.Terms.{under_cube, under_tope, under_term}
 use Rattle.rz_reading.specs.Piece.{Question, question}
 use Rattle.rz_reading.specs.Outcome.{Comparison, Equal, Differ, Clashes, Limited}
 use Rattle.rz_reading.specs.Step.{Ask, step}
@@ -30,9 +31,6 @@ two_variables = refl
 
 two_variables_without_depth : conversion 0 (question terms a b A) ≡ Limited Depth
 two_variables_without_depth = refl
-
-one_variable_without_depth : conversion 0 (question terms a a A) ≡ Equal
-one_variable_without_depth = refl
 
 runs_to_a : run (conversion 399) terms a_again ≡ Reached a
 unfolding step_limit
@@ -92,6 +90,18 @@ of_functions = two_of (pi (term_variable 0) (term_variable 1)) (pi (term_variabl
 functions_eta : compares of_functions a (lambda A A' (application A' A'' (term_variable 2) (term_variable 0))) (pi A A') ≡ Equal
 unfolding step_limit
 functions_eta = refl
+
+-- with a family that mentions its own variable: that stays the innermost, and the new one stands outside of it
+abbrev loops : Tree → Tree
+loops A = identity A (term_variable 0) (term_variable 0)
+
+abbrev of_loops : Tree
+of_loops = two_of (pi (term_variable 0) (loops (term_variable 1))) (pi (term_variable 1) (loops (term_variable 2)))
+
+dependent_functions_eta : compares of_loops a (lambda A (loops A') (application A' (loops A'') (term_variable 2) (term_variable 0))) (pi A (loops A'))
+    ≡ Equal
+unfolding step_limit
+dependent_functions_eta = refl
 
 functions_differ : compares of_functions a b (pi A A') ≡ Differ
 unfolding step_limit
@@ -239,6 +249,10 @@ projections : compares of_pairs (first A A' a) (first kA A' a) A ≡ Equal
 unfolding step_limit
 projections = refl
 
+second_projections : compares of_pairs (second A A' a) (second kA A' a) A ≡ Equal
+unfolding step_limit
+second_projections = refl
+
 inductions : compares terms (induction A a unit b a b) (induction A a unit b a_again b) A ≡ Equal
 unfolding step_limit
 inductions = refl
@@ -256,10 +270,35 @@ points_differ : compares square (at_end a t) (at_end a s) A ≡ Differ
 unfolding step_limit
 points_differ = refl
 
+-- postulated functions from types to types, one for each name
+abbrev postulated : ℕ → Tree → Tree
+postulated letter x = application universe universe (At Postulate 0 (letter ∷ []) (And (pi universe universe) Nil)) x
+
+one_postulate : compares terms (postulated 112 A) (postulated 112 kA) universe ≡ Equal
+unfolding step_limit
+one_postulate = refl
+
+-- two names are two heads; no pair of coordinates is left to split on, and they differ
+two_postulates : compares terms (postulated 112 A) (postulated 113 A) universe ≡ Differ
+unfolding step_limit
+two_postulates = refl
+
 -- all kinds and the number of eliminators come before any argument: here none is compared, and no depth is wanted
 number_first : conversion 1 (question of_functions (application A A' a b) (application A A' (application A A' a a_again) b) A) ≡ Differ
 unfolding step_limit
 number_first = refl
+
+-- the same where a later kind is another one: a first and a second part of what a function into pairs makes of two arguments
+abbrev of_function_to_pairs : Tree
+of_function_to_pairs = under_term terms (pi A (sigma A' A''))
+
+abbrev to_pairs : Tree → Tree
+to_pairs x = application A' (sigma A'' (term_variable 5)) (term_variable 0) x
+
+kind_first : conversion 1 (question of_function_to_pairs (first A' A'' (to_pairs (term_variable 2))) (second A' A'' (to_pairs (term_variable 1))) A')
+    ≡ Differ
+unfolding step_limit
+kind_first = refl
 
 -- ---- orders
 
@@ -285,39 +324,53 @@ left_of_point = At PointLeft 0 [] (And s Nil)
 abbrev right_of_point : Tree
 right_of_point = At PointRight 0 [] (And s Nil)
 
-parts_of_a_point : orders (under_tope (under_tope (under_cube terms (product interval interval)) (at_most right_of_point one_end)) (at_most left_of_point one_end))
+parts_of_a_point :
+    orders (under_tope (under_tope (under_cube terms (product interval interval)) (at_most right_of_point one_end)) (at_most left_of_point one_end))
     ≡ InNoOrder right_of_point left_of_point
 parts_of_a_point = refl
 
--- A function on a square with values that are lines; the line is constant where t ≤ s, and x at each point where s ≤ t. At t,
+-- A function f on a square with values that are lines; the line is constant where t ≤ s, and x at each point where s ≤ t. At t,
 -- s and the end 0 it is stuck, and each of the two orders makes it x.
-abbrev across : (Tree → Tree) → Tree → Tree → Tree
-across face x point =
+abbrev across : Tree → (Tree → Tree) → Tree → Tree → Tree
+across f face x point =
     let lines = λ (t : Tree). extension_type interval top A (face t) x in
     let constant_line = λ (t : Tree). shape_lambda interval top A (face t) x x in
     let inner = extension_type interval top (lines (point_variable 2)) (at_most (point_variable 1) s) (constant_line (point_variable 2)) in
     extension_application interval top A (face (point_variable 2)) x
     (extension_application interval top (lines (point_variable 3)) (at_most (point_variable 2) s) (constant_line (point_variable 3))
-    (extension_application interval top inner bottom (absurdity inner) b t) s) point
+    (extension_application interval top inner bottom (absurdity inner) f t) s) point
 
 abbrev below_diagonal : Tree → Tree
 below_diagonal t = at_most (point_variable 1) t
 
-both_orders : compares occupied (across below_diagonal a zero_end) a A ≡ Equal
+both_orders : compares occupied (across b below_diagonal a zero_end) a A ≡ Equal
 unfolding step_limit
 both_orders = refl
 
 -- without the second face the one order leaves them different
-one_order : compares occupied (across (λ t. bottom) a zero_end) a A ≡ Differ
+one_order : compares occupied (across b (λ t. bottom) a zero_end) a A ≡ Differ
 unfolding step_limit
 one_order = refl
 
 -- and with no tope in the context no coordinates are split on
-no_orders : compares square (across below_diagonal a zero_end) a A ≡ Differ
+no_orders : compares square (across b below_diagonal a zero_end) a A ≡ Differ
 unfolding step_limit
 no_orders = refl
 
--- points that don't agree lead to the orders too; each of them is tried with one depth less
+-- Around b, a first and a second part: the kinds disagree before any argument is compared, and the orders make both a. With
+-- two first parts the arguments are compared, and set them apart.
+abbrev across_part : (Tree → Tree → Tree → Tree) → Tree → Tree
+across_part part x = across (part A A' (application A A' b x)) below_diagonal a zero_end
+
+kinds_before_arguments : compares occupied (across_part first a) (across_part second b) A ≡ Equal
+unfolding step_limit
+kinds_before_arguments = refl
+
+arguments_set_apart : compares occupied (across_part first a) (across_part first b) A ≡ Differ
+unfolding step_limit
+arguments_set_apart = refl
+
+-- points that don't agree lead to the orders too: each of them leaves these two apart
 apart_differ : compares occupied (at_end a t) (at_end a s) A ≡ Differ
 unfolding step_limit
 apart_differ = refl
@@ -368,6 +421,18 @@ wide_points : compares (under_cube of_functions wide) (application A A' (at_wide
     ≡ Limited Coordinates
 unfolding step_limit
 wide_points = refl
+
+-- the topes of two extension types aren't asked where they are one tree, and are too wide where they aren't, even if they agree
+abbrev wide_type : Tree → Tree → Tree
+wide_type A face = extension_type wide top A face a
+
+one_wide_face : compares terms (wide_type A (equal_points wide s s)) (wide_type kA (equal_points wide s s)) universe ≡ Equal
+unfolding step_limit
+one_wide_face = refl
+
+two_wide_faces : compares terms (wide_type A (equal_points wide s s)) (wide_type A top) universe ≡ Limited Coordinates
+unfolding step_limit
+two_wide_faces = refl
 
 -- without depth a wide context comes first, and one tree before it
 abbrev wide_context : Tree
