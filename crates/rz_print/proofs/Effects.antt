@@ -249,6 +249,7 @@ CommandsBelow count (one ∷ list) = AreBelow count (forms_named one) × Command
 abbrev pub Filed : Builder → Type 0
 Filed b = Sound b × CommandsBelow (length b.forms) b.commands
 
+-- of the rules of sequents, which are not printed, nothing is said
 abbrev pub Effect : Rule → Builder → Builder → Type 0
 Effect rule.Binders b b' = Lists bound GoodBinds b b'
 Effect rule.Binder b b' = Lists bound TypedBinds b b'
@@ -277,6 +278,12 @@ Effect rule.Arguments b b' = Lists argued GoodArguments b b'
 Effect rule.Atom b b' = MakesForm b b'
 Effect rule.ReflEnd b b' = TakesPlace b b'
 Effect rule.Closing b b' = TakesPlace b b'
+Effect rule.Sequent b b' = Unit {0}
+Effect rule.Entries b b' = Unit {0}
+Effect rule.MoreEntries b b' = Unit {0}
+Effect rule.Names b b' = Unit {0}
+Effect rule.Hypotheses b b' = Unit {0}
+Effect rule.MoreHypotheses b b' = Unit {0}
 Effect _ b b' = Filed b → Filed b'
 
 -- what symbols do, one after another

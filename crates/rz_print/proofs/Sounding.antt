@@ -485,6 +485,7 @@ rule_does text tokens names rule.Arguments inner read b b' among p = each (λ ss
 rule_does text tokens names rule.Atom inner read b b' among p = each (λ ss. Chain text tokens ss read b b') (Effect rule.Atom b b') inner (alternatives rule.Atom) (does_atom text tokens names read b b') among p
 rule_does text tokens names rule.ReflEnd inner read b b' among p = each (λ ss. Chain text tokens ss read b b') (Effect rule.ReflEnd b b') inner (alternatives rule.ReflEnd) (does_reflend text tokens names read b b') among p
 rule_does text tokens names rule.Closing inner read b b' among p = each (λ ss. Chain text tokens ss read b b') (Effect rule.Closing b b') inner (alternatives rule.Closing) (does_closing text tokens names read b b') among p
+rule_does text tokens names rule inner read b b' among p = tt
 
 -- ---- phrases
 

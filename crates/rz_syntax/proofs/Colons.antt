@@ -165,6 +165,12 @@ gap rule.Arguments = Level
 gap rule.Atom = Level
 gap rule.ReflEnd = Loud
 gap rule.Closing = Falls
+gap rule.Sequent = Loud
+gap rule.Entries = Loud
+gap rule.MoreEntries = Loud
+gap rule.Names = Loud
+gap rule.Hypotheses = Loud
+gap rule.MoreHypotheses = Loud
 
 abbrev pub quiet_by : Mark → ℕ → (ℕ → Bool) → Bool
 quiet_by Plain more next = next more

@@ -48,6 +48,12 @@ rank rule.Arguments = 1
 rank rule.Atom = 3
 rank rule.ReflEnd = 3
 rank rule.Closing = 3
+rank rule.Sequent = 26
+rank rule.Entries = 1
+rank rule.MoreEntries = 1
+rank rule.Names = 26
+rank rule.Hypotheses = 1
+rank rule.MoreHypotheses = 1
 
 abbrev size : List Symbol → ℕ
 size [] = 0

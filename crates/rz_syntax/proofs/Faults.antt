@@ -1,5 +1,5 @@
 -- Tokens have one answer.
-use Rattle.std.proofs.Common.{◌≡◌, ℕ, zero, suc, ◌+◌, ◌<◌, ◌≤◌, Bool, true, false, List, [], ◌∷◌, ◌++◌, inl, inr, Result, Ok, Err, take, drop, refl, sym, ap, subst, arith, append_assoc}
+use Rattle.std.proofs.Common.{◌≡◌, ℕ, zero, suc, ◌+◌, ◌<◌, ◌≤◌, Bool, true, false, List, [], ◌∷◌, ◌++◌, inl, inr, Result, Ok, Err, take, drop, refl, sym, ap, ◌∙◌, subst, arith, append_assoc}
 use Rattle.std.specs.Prelude.{IfOk, OnOk, IfErr}
 use Rattle.std.proofs.lemmas.List.{take-append-drop}
 use Rattle.std.proofs.lemmas.Bool.{cases_lt}
@@ -10,15 +10,16 @@ use Rattle.rz_syntax.specs.declared.action.Step.{Step}
 use Rattle.rz_syntax.specs.declared.fault.ParseFault.{ParseFault}
 use Rattle.rz_syntax.specs.declared.fault.ParseFault.TheVariants.{NoLang, TooNested, Syntax, OutOfMemory}
 use Rattle.rz_syntax.specs.declared.forms.Commands.{Commands}
+use Rattle.rz_syntax.specs.declared.forms.RawSequent.{RawSequent}
 use Rattle.rz_syntax.specs.declared.grammar.Symbol.TheVariants.{Sub}
 use Rattle.rz_syntax.specs.declared.grammar.Rule.{Rule}
 use Rattle.rz_syntax.specs.declared.grammar.Rule.TheVariants as rule
 use Rattle.rz_syntax.specs.Grammar.{Gives, MayBegin, StopsAt, kinds_of}
 use Rattle.rz_syntax.specs.Levels.{IsTooNestedAt, IsShallow}
-use Rattle.rz_syntax.specs.Source.{IsFile, begins_file, IsRefusal, IsFaultOf, UnlessMemory}
+use Rattle.rz_syntax.specs.Source.{IsFile, begins_file, IsRefusal, IsFaultOf, IsSequent, IsSequentRefusal, IsSequentFaultOf, UnlessMemory}
 use Rattle.rz_syntax.proofs.Phrases.{goes_of}
 use Rattle.rz_syntax.proofs.Starts.{Starts, starts, one_of_one}
-use Rattle.rz_syntax.proofs.Once.{one_file}
+use Rattle.rz_syntax.proofs.Once.{one_file, one_sequent}
 
 -- a file begins with its first token
 begins_by : (kinds : List Tok) → Starts kinds (Sub rule.File ∷ []) → begins_file kinds ≡ true
@@ -62,53 +63,150 @@ one_stop inner kinds a b x y = elim (cases_lt a b) [
 false_or_true : {b : Bool} → b ≡ false → b ≡ true → ⊥
 false_or_true x y = cc
 
+-- ---- refusals of tokens that are read by a rule
+
+-- a token is nested too deep, or none is and the rule stops
+abbrev Refuses : Rule → List Tok → ParseFault → Type 0
+Refuses start kinds NoLang = ⊥
+Refuses start kinds (TooNested token) = IsTooNestedAt kinds token
+Refuses start kinds (Syntax token) = IsShallow kinds × StopsAt start kinds token
+Refuses start kinds OutOfMemory = ⊥
+
 -- two refusals of the same tokens are one
-one_refusal : (kinds : List Tok) (a b : ParseFault) → IsRefusal kinds a → IsRefusal kinds b → a ≡ b
-one_refusal kinds NoLang NoLang x y = refl
-one_refusal kinds NoLang (TooNested t) x y = absurd (false_or_true x y.0)
-one_refusal kinds NoLang (Syntax t) x y = absurd (false_or_true x y.0)
-one_refusal kinds NoLang OutOfMemory x y = absurd y
-one_refusal kinds (TooNested s) NoLang x y = absurd (false_or_true y x.0)
-one_refusal kinds (TooNested s) (TooNested t) x y = ap (λ (n : ℕ). TooNested n) (one_depth kinds s t x.1 y.1)
-one_refusal kinds (TooNested s) (Syntax t) x y = absurd (deep_or_shallow kinds s x.1 y.1)
-one_refusal kinds (TooNested s) OutOfMemory x y = absurd y
-one_refusal kinds (Syntax s) NoLang x y = absurd (false_or_true y x.0)
-one_refusal kinds (Syntax s) (TooNested t) x y = absurd (deep_or_shallow kinds t y.1 x.1)
-one_refusal kinds (Syntax s) (Syntax t) x y = ap (λ (n : ℕ). Syntax n) (one_stop rule.File kinds s t x.2 y.2)
-one_refusal kinds (Syntax s) OutOfMemory x y = absurd y
-one_refusal kinds OutOfMemory b x y = absurd x
+one_refusal : (start : Rule) (kinds : List Tok) (a b : ParseFault) → Refuses start kinds a → Refuses start kinds b → a ≡ b
+one_refusal start kinds NoLang b x y = absurd x
+one_refusal start kinds (TooNested s) NoLang x y = absurd y
+one_refusal start kinds (TooNested s) (TooNested t) x y = ap (λ (n : ℕ). TooNested n) (one_depth kinds s t x y)
+one_refusal start kinds (TooNested s) (Syntax t) x y = absurd (deep_or_shallow kinds s x y.0)
+one_refusal start kinds (TooNested s) OutOfMemory x y = absurd y
+one_refusal start kinds (Syntax s) NoLang x y = absurd y
+one_refusal start kinds (Syntax s) (TooNested t) x y = absurd (deep_or_shallow kinds t y x.0)
+one_refusal start kinds (Syntax s) (Syntax t) x y = ap (λ (n : ℕ). Syntax n) (one_stop start kinds s t x.1 y.1)
+one_refusal start kinds (Syntax s) OutOfMemory x y = absurd y
+one_refusal start kinds OutOfMemory b x y = absurd x
 
--- a file without a token too deep is not refused
-not_refused : (text : List ℕ) (tokens : List Token) (commands : Commands) (fault : ParseFault) → IsShallow (kinds_of tokens) → IsFile text tokens commands → IsRefusal (kinds_of tokens) fault → ⊥
-not_refused text tokens commands NoLang shallow file x = false_or_true x (file_begins (kinds_of tokens) file.steps file.gives)
-not_refused text tokens commands (TooNested t) shallow file x = deep_or_shallow (kinds_of tokens) t x.1 shallow
-not_refused text tokens commands (Syntax t) shallow file x = x.2.none file.steps file.gives
-not_refused text tokens commands OutOfMemory shallow file x = x
+-- what the rule gives is not refused where no token is too deep
+not_refused : (start : Rule) (kinds : List Tok) (steps : List Step) (fault : ParseFault) → IsShallow kinds → Gives start kinds steps → Refuses start kinds fault → ⊥
+not_refused start kinds steps NoLang shallow gives x = x
+not_refused start kinds steps (TooNested t) shallow gives x = deep_or_shallow kinds t x shallow
+not_refused start kinds steps (Syntax t) shallow gives x = x.1.none steps gives
+not_refused start kinds steps OutOfMemory shallow gives x = x
 
--- ---- answers
+-- ---- answers, of whatever is read
+
+-- the fault is such a refusal, or memory ran out
+abbrev OrMemory : (ParseFault → Type 0) → ParseFault → Type 0
+OrMemory Refused OutOfMemory = Unit {0}
+OrMemory Refused fault = Refused fault
+
+-- What is right of a reader: it answers what the tokens are, which is one, and tokens that are
+-- something have no refusal, and others have one.
+record Reader (T : Type 0) (Is : T → Type 0) (Refused : ParseFault → Type 0) : Type 0 where
+  one : (a b : T) → Is a → Is b → a ≡ b
+  one_fault : (a b : ParseFault) → Refused a → Refused b → a ≡ b
+  never_both : (a : T) (fault : ParseFault) → Is a → Refused fault → ⊥
+
+only_value : (T : Type 0) (Is : T → Type 0) (Refused : ParseFault → Type 0) → Reader T Is Refused → (answer : Result T ParseFault) → IfOk answer Is → IfErr answer (OrMemory Refused)
+    → (wanted : T) → Is wanted → UnlessMemory answer (Ok wanted)
+only_value T Is Refused r (Ok a) right fault wanted w = ap (λ (t : T). Ok t) (r.one a wanted right w)
+only_value T Is Refused r (Err NoLang) right fault wanted w = absurd (r.never_both wanted NoLang w fault)
+only_value T Is Refused r (Err (TooNested t)) right fault wanted w = absurd (r.never_both wanted (TooNested t) w fault)
+only_value T Is Refused r (Err (Syntax t)) right fault wanted w = absurd (r.never_both wanted (Syntax t) w fault)
+only_value T Is Refused r (Err OutOfMemory) right fault wanted w = tt
+
+refusal : (T : Type 0) → ParseFault → Result T ParseFault
+refusal T fault = Err fault
+
+same_refusal : (T : Type 0) (a b : ParseFault) → a ≡ b → refusal T a ≡ refusal T b
+same_refusal T a b e = ap (refusal T) e
+
+only_fault : (T : Type 0) (Is : T → Type 0) (Refused : ParseFault → Type 0) → Reader T Is Refused → (answer : Result T ParseFault) → IfOk answer Is → IfErr answer (OrMemory Refused)
+    → (wanted : ParseFault) → Refused wanted → UnlessMemory answer (Err wanted)
+unfolding refusal
+only_fault T Is Refused r (Ok a) right fault wanted w = absurd (r.never_both a wanted right w)
+only_fault T Is Refused r (Err NoLang) right fault wanted w = same_refusal T NoLang wanted (r.one_fault NoLang wanted fault w)
+only_fault T Is Refused r (Err (TooNested t)) right fault wanted w = same_refusal T (TooNested t) wanted (r.one_fault (TooNested t) wanted fault w)
+only_fault T Is Refused r (Err (Syntax t)) right fault wanted w = same_refusal T (Syntax t) wanted (r.one_fault (Syntax t) wanted fault w)
+only_fault T Is Refused r (Err OutOfMemory) right fault wanted w = tt
+
+-- ---- files
+
+-- where the text begins a file, another fault than NoLang comes
+past_lang : (kinds : List Tok) (fault : ParseFault) → begins_file kinds ≡ true → IsRefusal kinds fault → Refuses rule.File kinds fault
+past_lang kinds NoLang begins x = absurd (false_or_true x begins)
+past_lang kinds (TooNested t) begins x = x.1
+past_lang kinds (Syntax t) begins x = (x.1, x.2)
+past_lang kinds OutOfMemory begins x = x
+
+no_lang : (kinds : List Tok) (fault : ParseFault) → begins_file kinds ≡ false → IsRefusal kinds fault → fault ≡ NoLang
+no_lang kinds NoLang none x = refl
+no_lang kinds (TooNested t) none x = absurd (false_or_true none x.0)
+no_lang kinds (Syntax t) none x = absurd (false_or_true none x.0)
+no_lang kinds OutOfMemory none x = absurd x
+
+one_file_refusal : (kinds : List Tok) (a b : ParseFault) → IsRefusal kinds a → IsRefusal kinds b → a ≡ b
+one_file_refusal kinds a b x y = by_test (begins_file kinds) refl
+  where
+    by_test : (begins : Bool) → begins_file kinds ≡ begins → a ≡ b
+    by_test true e = one_refusal rule.File kinds a b (past_lang kinds a e x) (past_lang kinds b e y)
+    by_test false e = no_lang kinds a e x ∙ sym (no_lang kinds b e y)
+
+-- the commands of tokens of which none is too deep
+abbrev ShallowFile : List ℕ → List Token → Commands → Type 0
+ShallowFile text tokens commands = IsShallow (kinds_of tokens) × IsFile text tokens commands
+
+file_reader : (text : List ℕ) (tokens : List Token) → Reader Commands (ShallowFile text tokens) (IsRefusal (kinds_of tokens))
+file_reader text tokens = record {
+  one = λ a b x y. one_file text tokens a b x.1 y.1;
+  one_fault = one_file_refusal (kinds_of tokens);
+  never_both = λ a fault x refused.
+      let kinds = kinds_of tokens in
+      not_refused rule.File kinds x.1.steps fault x.0 x.1.gives (past_lang kinds fault (file_begins kinds x.1.steps x.1.gives) refused);
+}
 
 pub record Answer (text : List ℕ) (tokens : List Token) (answer : Result Commands ParseFault) : Type 0 where
   pub file : IfOk answer (IsFile text tokens)
   pub shallow : OnOk answer (IsShallow (kinds_of tokens))
   pub fault : IfErr answer (IsFaultOf (kinds_of tokens))
 
+both : {T : Type 0} (Is : T → Type 0) (Shallow : Type 0) (answer : Result T ParseFault) → IfOk answer Is → OnOk answer Shallow → IfOk answer (λ (t : T). Shallow × Is t)
+both Is Shallow (Ok t) x y = (y, x)
+both Is Shallow (Err fault) x y = tt
+
 pub only_file : (text : List ℕ) (tokens : List Token) (answer : Result Commands ParseFault) → Answer text tokens answer → (commands : Commands) → IsShallow (kinds_of tokens) → IsFile text tokens commands → UnlessMemory answer (Ok commands)
-only_file text tokens (Ok those) a commands shallow file = ap (λ (c : Commands). Ok c) (one_file text tokens those commands a.file file)
-only_file text tokens (Err NoLang) a commands shallow file = absurd (not_refused text tokens commands NoLang shallow file a.fault)
-only_file text tokens (Err (TooNested t)) a commands shallow file = absurd (not_refused text tokens commands (TooNested t) shallow file a.fault)
-only_file text tokens (Err (Syntax t)) a commands shallow file = absurd (not_refused text tokens commands (Syntax t) shallow file a.fault)
-only_file text tokens (Err OutOfMemory) a commands shallow file = tt
-
-refusal : ParseFault → Result Commands ParseFault
-refusal fault = Err fault
-
-same_refusal : (kinds : List Tok) (a b : ParseFault) → IsRefusal kinds a → IsRefusal kinds b → refusal a ≡ refusal b
-same_refusal kinds a b x y = ap refusal (one_refusal kinds a b x y)
+only_file text tokens answer a commands shallow file =
+    only_value Commands (ShallowFile text tokens) (IsRefusal (kinds_of tokens)) (file_reader text tokens) answer (both (IsFile text tokens) (IsShallow (kinds_of tokens)) answer a.file a.shallow) a.fault commands (shallow, file)
 
 pub only_refusal : (text : List ℕ) (tokens : List Token) (answer : Result Commands ParseFault) → Answer text tokens answer → (fault : ParseFault) → IsRefusal (kinds_of tokens) fault → UnlessMemory answer (Err fault)
-unfolding refusal
-only_refusal text tokens (Ok those) a fault x = absurd (not_refused text tokens those fault a.shallow a.file x)
-only_refusal text tokens (Err NoLang) a fault x = same_refusal (kinds_of tokens) NoLang fault a.fault x
-only_refusal text tokens (Err (TooNested t)) a fault x = same_refusal (kinds_of tokens) (TooNested t) fault a.fault x
-only_refusal text tokens (Err (Syntax t)) a fault x = same_refusal (kinds_of tokens) (Syntax t) fault a.fault x
-only_refusal text tokens (Err OutOfMemory) a fault x = tt
+only_refusal text tokens answer a fault x =
+    only_fault Commands (ShallowFile text tokens) (IsRefusal (kinds_of tokens)) (file_reader text tokens) answer (both (IsFile text tokens) (IsShallow (kinds_of tokens)) answer a.file a.shallow) a.fault fault x
+
+-- ---- sequents
+
+-- the sequent of tokens of which none is too deep
+abbrev ShallowSequent : List ℕ → List Token → RawSequent → Type 0
+ShallowSequent text tokens sequent = IsShallow (kinds_of tokens) × IsSequent text tokens sequent
+
+sequent_reader : (text : List ℕ) (tokens : List Token) → Reader RawSequent (ShallowSequent text tokens) (IsSequentRefusal (kinds_of tokens))
+sequent_reader text tokens = record {
+  one = λ a b x y. one_sequent text tokens a b x.1 y.1;
+  one_fault = one_refusal rule.Sequent (kinds_of tokens);
+  never_both = λ a fault x refused. not_refused rule.Sequent (kinds_of tokens) x.1.steps fault x.0 x.1.gives refused;
+}
+
+pub record SequentAnswer (text : List ℕ) (tokens : List Token) (answer : Result RawSequent ParseFault) : Type 0 where
+  pub sequent : IfOk answer (IsSequent text tokens)
+  pub shallow : OnOk answer (IsShallow (kinds_of tokens))
+  pub fault : IfErr answer (IsSequentFaultOf (kinds_of tokens))
+
+pub only_sequent : (text : List ℕ) (tokens : List Token) (answer : Result RawSequent ParseFault) → SequentAnswer text tokens answer → (sequent : RawSequent) → IsShallow (kinds_of tokens) → IsSequent text tokens sequent
+    → UnlessMemory answer (Ok sequent)
+only_sequent text tokens answer a sequent shallow is =
+    only_value RawSequent (ShallowSequent text tokens) (IsSequentRefusal (kinds_of tokens)) (sequent_reader text tokens) answer (both (IsSequent text tokens) (IsShallow (kinds_of tokens)) answer a.sequent a.shallow) a.fault
+    sequent (shallow, is)
+
+pub only_sequent_refusal : (text : List ℕ) (tokens : List Token) (answer : Result RawSequent ParseFault) → SequentAnswer text tokens answer → (fault : ParseFault) → IsSequentRefusal (kinds_of tokens) fault
+    → UnlessMemory answer (Err fault)
+only_sequent_refusal text tokens answer a fault x =
+    only_fault RawSequent (ShallowSequent text tokens) (IsSequentRefusal (kinds_of tokens)) (sequent_reader text tokens) answer (both (IsSequent text tokens) (IsShallow (kinds_of tokens)) answer a.sequent a.shallow) a.fault
+    fault x

@@ -1,4 +1,4 @@
--- Tokens are a file in one way.
+-- Tokens are what a rule gives in one way, and so a file or a sequent in one way.
 use Rattle.std.proofs.Common.{◌≡◌, ℕ, zero, Bool, true, false, cond, ◌||◌, List, [], ◌∷◌, ◌++◌, inl, inr, refl, sym, ap, ◌∙◌, subst}
 use Rattle.rz_lex.specs.declared.token.Tok.{Tok}
 use Rattle.rz_lex.specs.declared.token.Tok.TheVariants as token
@@ -6,14 +6,15 @@ use Rattle.rz_lex.specs.declared.token.Token.{Token}
 use Rattle.rz_syntax.specs.declared.action.Action.TheVariants as act
 use Rattle.rz_syntax.specs.declared.action.Step.{Step}
 use Rattle.rz_syntax.specs.declared.forms.Commands.{Commands}
+use Rattle.rz_syntax.specs.declared.forms.RawSequent.{RawSequent}
 use Rattle.rz_syntax.specs.declared.grammar.Symbol.{Symbol}
 use Rattle.rz_syntax.specs.declared.grammar.Symbol.TheVariants.{One, Sub, Do}
 use Rattle.rz_syntax.specs.declared.grammar.Rule.{Rule}
 use Rattle.rz_syntax.specs.declared.grammar.Rule.TheVariants as rule
 use Rattle.rz_syntax.specs.Grammar.{IsOneOf, alternatives, Phrase, token, part, Gives, kinds_of}
 use Rattle.rz_syntax.specs.Threads.{Goes, ends, takes, acts, opens, onto}
-use Rattle.rz_syntax.specs.Building.{commands_by}
-use Rattle.rz_syntax.specs.Source.{IsFile}
+use Rattle.rz_syntax.specs.Building.{commands_by, sequent_by}
+use Rattle.rz_syntax.specs.Source.{IsFile, IsSequent}
 use Rattle.rz_syntax.proofs.Ways.{took, acted, opened_by}
 use Rattle.rz_syntax.proofs.Phrases.{goes_of, phrase_of, splits}
 use Rattle.rz_syntax.proofs.Starts.{one_of, none_of, is_in, firsts, firsts-append, passes, starts, Fits, fits_on, shared, Heads, choice}
@@ -235,8 +236,12 @@ once (opens {rule} {symbols} {done} {kinds} {script} inner among h) b f y =
     let same = one_choice rule inner by.0 symbols done done kinds script b f among by.1 h by.2 in
     once h b (fits_on rule symbols inner among f) (subst (λ (s : List Symbol). Goes (s ++ symbols) done kinds b) (sym same) by.2)
 
-pub one_script : (kinds : List Tok) (a b : List Step) → Gives rule.File kinds a → Gives rule.File kinds b → a ≡ b
-one_script kinds a b x y = once (goes_of rule.File kinds a x) b ((λ kind h. cc), tt) (goes_of rule.File kinds b y)
+-- what a rule gives with nothing behind it
+pub one_script : (start : Rule) (kinds : List Tok) (a b : List Step) → Gives start kinds a → Gives start kinds b → a ≡ b
+one_script start kinds a b x y = once (goes_of start kinds a x) b ((λ kind h. cc), tt) (goes_of start kinds b y)
 
 pub one_file : (text : List ℕ) (tokens : List Token) (a b : Commands) → IsFile text tokens a → IsFile text tokens b → a ≡ b
-one_file text tokens a b x y = x.are ∙ ap (commands_by text tokens) (one_script (kinds_of tokens) x.steps y.steps x.gives y.gives) ∙ sym y.are
+one_file text tokens a b x y = x.are ∙ ap (commands_by text tokens) (one_script rule.File (kinds_of tokens) x.steps y.steps x.gives y.gives) ∙ sym y.are
+
+pub one_sequent : (text : List ℕ) (tokens : List Token) (a b : RawSequent) → IsSequent text tokens a → IsSequent text tokens b → a ≡ b
+one_sequent text tokens a b x y = x.is ∙ ap (sequent_by text tokens) (one_script rule.Sequent (kinds_of tokens) x.steps y.steps x.gives y.gives) ∙ sym y.is

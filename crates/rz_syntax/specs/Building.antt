@@ -22,6 +22,8 @@ use Rattle.rz_syntax.specs.declared.forms.Form.TheVariants as form
 use Rattle.rz_syntax.specs.declared.forms.Command.{Command}
 use Rattle.rz_syntax.specs.declared.forms.Command.TheVariants as command
 use Rattle.rz_syntax.specs.declared.forms.Commands.{Commands}
+use Rattle.rz_syntax.specs.declared.forms.CubeNames.{CubeNames}
+use Rattle.rz_syntax.specs.declared.forms.RawSequent.{RawSequent}
 use Rattle.rz_syntax.specs.declared.builder.Operand.{Operand}
 use Rattle.rz_syntax.specs.declared.builder.Builder.{Builder}
 
@@ -419,6 +421,17 @@ assume b read =
 abbrev pub set_option : Builder → ℕ → Builder
 set_option b read = with_command b (command.Option b.first (next_place b read))
 
+-- ---- sequents
+
+unfoldable pub with_names : Builder → CubeNames → Builder
+with_names b names = record b { entries = b.entries ++ names ∷ [] }
+
+-- names, and then their cube
+abbrev pub add_names : Builder → Builder
+add_names b =
+    let rest = without_operand b in
+    with_names (without_words rest) (record { names = rest.words; cube = (top_operand b).raw })
+
 -- ---- all actions
 
 abbrev pub last_word : List ℕ → List Token → ℕ → Builder → Word
@@ -474,6 +487,7 @@ after text tokens read action.Lambda b = lambda b
 after text tokens read action.Begin b = begin b read
 after text tokens read action.CommandName b = with_name b (last_word text tokens read b)
 after text tokens read action.AddWord b = add_word b (last_word text tokens read b)
+after text tokens read action.AddNames b = add_names b
 after text tokens read action.Define b = define b read
 after text tokens read action.Postulate b = postulate b read
 after text tokens read action.Check b = check b read
@@ -504,6 +518,7 @@ nothing_read =
       binds = [];
       name = None;
       words = [];
+      entries = [];
       shapes = [];
       forms = [];
       commands = [];
@@ -516,3 +531,18 @@ commands_of b = record { shapes = b.shapes; forms = b.forms; list = b.commands }
 -- what the steps make of the tokens of a text
 abbrev pub commands_by : List ℕ → List Token → List Step → Commands
 commands_by text tokens steps = commands_of (built text tokens 0 steps nothing_read)
+
+-- the sequent that was read, with its forms and patterns
+abbrev pub sequent_of : Builder → RawSequent
+sequent_of b =
+    record {
+      shapes = b.shapes;
+      forms = b.forms;
+      names = b.entries;
+      hypotheses = top_arguments b;
+      goal = (top_operand b).raw;
+    }
+
+-- what the steps make of the tokens of a text, as a sequent
+abbrev pub sequent_by : List ℕ → List Token → List Step → RawSequent
+sequent_by text tokens steps = sequent_of (built text tokens 0 steps nothing_read)

@@ -47,6 +47,12 @@ alternatives rule.Arguments = map (λ one. one.now) table.ARGUMENTS.now
 alternatives rule.Atom = map (λ one. one.now) table.ATOM.now
 alternatives rule.ReflEnd = map (λ one. one.now) table.REFL_END.now
 alternatives rule.Closing = map (λ one. one.now) table.CLOSING.now
+alternatives rule.Sequent = map (λ one. one.now) table.SEQUENT.now
+alternatives rule.Entries = map (λ one. one.now) table.ENTRIES.now
+alternatives rule.MoreEntries = map (λ one. one.now) table.MORE_ENTRIES.now
+alternatives rule.Names = map (λ one. one.now) table.NAMES.now
+alternatives rule.Hypotheses = map (λ one. one.now) table.HYPOTHESES.now
+alternatives rule.MoreHypotheses = map (λ one. one.now) table.MORE_HYPOTHESES.now
 
 -- what tokens mean, without their places
 abbrev pub kinds_of : List Token → List Tok

@@ -124,6 +124,12 @@ opening rule.Arguments = 27
 opening rule.Atom = 26
 opening rule.ReflEnd = 3
 opening rule.Closing = 3
+opening rule.Sequent = 5
+opening rule.Entries = 3
+opening rule.MoreEntries = 2
+opening rule.Names = 2
+opening rule.Hypotheses = 50
+opening rule.MoreHypotheses = 2
 
 abbrev pub passing : Rule → ℕ
 passing rule.File = 0
@@ -160,6 +166,12 @@ passing rule.Arguments = 1
 passing rule.Atom = 0
 passing rule.ReflEnd = 0
 passing rule.Closing = 0
+passing rule.Sequent = 0
+passing rule.Entries = 1
+passing rule.MoreEntries = 1
+passing rule.Names = 0
+passing rule.Hypotheses = 1
+passing rule.MoreHypotheses = 1
 
 -- at most so many ways are looked at, from these symbols on, before a token is taken
 abbrev pub cost : List Symbol → ℕ

@@ -104,8 +104,10 @@ pub enum Action {
     Begin,
     /// Takes the last token for the command's name.
     CommandName,
-    /// Adds the last token to the command's words.
+    /// Adds the last token to the words of a command or of a sequent.
     AddWord,
+    /// Takes a cube and the words, and adds the words as names of this cube.
+    AddNames,
     /// Makes the command of its kind, of what it has taken.
     Define,
     Postulate,

@@ -3,7 +3,7 @@
 ghost use Rattle.std.specs.Prelude.{◌≡◌, ◌+◌, ◌<◌, ◌^◌, List, [], ◌∷◌, ◌++◌, length, slice_get, All, IfOk, OnOk};
 ghost use Rattle.rz_syntax.specs.Building.{last_place, next_place, top_place, without_place, top_operand, without_operand, top_pattern, without_pattern, top_arguments, without_arguments, top_faces, without_faces, top_group, without_group, top_binds, without_binds, with_place, with_operand, with_form, with_pattern, with_arguments, with_faces, with_group, with_binds, with_command, top_name, without_name, without_words, nothing_read};
 
-use crate::forms::{Bind, Command, Form, Pat, Raw, RawFace, Shape, Word};
+use crate::forms::{Bind, Command, CubeNames, Form, Pat, Raw, RawFace, Shape, Word};
 use crate::lists::Stack;
 use rz_rules::{Items, Name, OutOfMemory, Values};
 use std::alloc::Global;
@@ -30,8 +30,10 @@ pub struct Builder {
     pub binds: Stack<Values<Bind>>,
     /// The command's name.
     pub name: Option<Word>,
-    /// The command's other names.
+    /// The command's other names, or the names of a sequent that have no cube yet.
     pub words: Items<Word>,
+    /// The names of a sequent, with their cubes.
+    pub entries: Items<CubeNames>,
     pub shapes: Items<Shape>,
     pub forms: Items<Form>,
     pub commands: Items<Command>,
@@ -60,6 +62,7 @@ impl Builder {
             binds: Stack::new(alloc),
             name: None,
             words: Items::new(alloc),
+            entries: Items::new(alloc),
             shapes: Items::new(alloc),
             forms: Items::new(alloc),
             commands: Items::new(alloc),

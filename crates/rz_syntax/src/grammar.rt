@@ -82,6 +82,18 @@ pub enum Rule {
     ReflEnd,
     /// `")"` or `"," term ")"`, behind `(` and a term
     Closing,
+    /// A whole sequent: `[names {"," names}] "|" [term {"," term}] "|-" term`
+    Sequent,
+    /// `[names {"," names}]`
+    Entries,
+    /// `{"," names}`
+    MoreEntries,
+    /// `name {name} ":" term`
+    Names,
+    /// `[term {"," term}]`
+    Hypotheses,
+    /// `{"," term}`
+    MoreHypotheses,
 }
 
 /// What `Rule::File` gives.
@@ -591,6 +603,56 @@ pub const CLOSING: &[&[Symbol]] = &[
     ],
 ];
 
+/// What `Rule::Sequent` gives.
+pub const SEQUENT: &[&[Symbol]] = &[&[
+    Sub(Rule::Entries),
+    One(Tok::Bar),
+    Do(Action::OpenArguments),
+    Sub(Rule::Hypotheses),
+    One(Tok::Turnstile),
+    Sub(Rule::Term),
+]];
+
+/// What `Rule::Entries` gives.
+pub const ENTRIES: &[&[Symbol]] = &[&[], &[Sub(Rule::Names), Sub(Rule::MoreEntries)]];
+
+/// What `Rule::MoreEntries` gives.
+pub const MORE_ENTRIES: &[&[Symbol]] = &[
+    &[],
+    &[One(Tok::Comma), Sub(Rule::Names), Sub(Rule::MoreEntries)],
+];
+
+/// What `Rule::Names` gives.
+pub const NAMES: &[&[Symbol]] = &[&[
+    One(Tok::Name),
+    Do(Action::AddWord),
+    Sub(Rule::Words),
+    One(Tok::Colon),
+    Sub(Rule::Term),
+    Do(Action::AddNames),
+]];
+
+/// What `Rule::Hypotheses` gives.
+pub const HYPOTHESES: &[&[Symbol]] = &[
+    &[],
+    &[
+        Sub(Rule::Term),
+        Do(Action::AddArgument),
+        Sub(Rule::MoreHypotheses),
+    ],
+];
+
+/// What `Rule::MoreHypotheses` gives.
+pub const MORE_HYPOTHESES: &[&[Symbol]] = &[
+    &[],
+    &[
+        One(Tok::Comma),
+        Sub(Rule::Term),
+        Do(Action::AddArgument),
+        Sub(Rule::MoreHypotheses),
+    ],
+];
+
 /// The alternatives of a rule.
 #[tactic(auto, unfolding(crate::specs::Grammar::alternatives))]
 pub fn alternatives(rule: Rule) -> &'static [&'static [Symbol]]
@@ -631,5 +693,11 @@ pub fn alternatives(rule: Rule) -> &'static [&'static [Symbol]]
         Rule::Atom => ATOM,
         Rule::ReflEnd => REFL_END,
         Rule::Closing => CLOSING,
+        Rule::Sequent => SEQUENT,
+        Rule::Entries => ENTRIES,
+        Rule::MoreEntries => MORE_ENTRIES,
+        Rule::Names => NAMES,
+        Rule::Hypotheses => HYPOTHESES,
+        Rule::MoreHypotheses => MORE_HYPOTHESES,
     }
 }

@@ -1,4 +1,4 @@
-//! Tokens into commands: a grammar that is data, and one engine over it.
+//! Tokens into commands or into a sequent: a grammar that is data, and one engine over it.
 #![tactic(auto)]
 
 mod action;
@@ -16,11 +16,17 @@ mod parts;
 
 pub use action::{Action, Join, Leaf, Step};
 pub use fault::ParseFault;
-pub use forms::{Bind, Command, Commands, Form, Pat, Raw, RawFace, Shape, Word};
+pub use forms::{
+    Bind, Command, Commands, CubeNames, Form, Pat, Raw, RawFace, RawSequent, Shape, Word,
+};
 pub use grammar::{Rule, Symbol, alternatives};
-pub use laws::one_reading;
+pub use laws::{one_reading, one_sequent};
 pub use levels::{Bend, TOO_DEEP, bend_of};
-pub use parser::parse;
+pub use parser::{parse, parse_sequent};
 
+#[cfg(test)]
+mod sequent_tests;
+#[cfg(test)]
+mod show;
 #[cfg(test)]
 mod tests;

@@ -1,11 +1,11 @@
 //! What the actions make of commands, and all actions in their order.
 
 ghost use Rattle.std.specs.Prelude.{◌≡◌, ◌+◌, ◌<◌, ◌^◌, List, [], ◌∷◌, ◌++◌, length, slice_get, All, IfOk, OnOk};
-ghost use Rattle.rz_syntax.specs.Building.{last_bytes, IsSpan, begin, with_name, add_word, define, postulate, check, compute, section, end, assume, set_option, last_word, after, commands_by, name_pattern, named, with_leaf};
+ghost use Rattle.rz_syntax.specs.Building.{last_bytes, IsSpan, begin, with_name, add_word, define, postulate, check, compute, section, end, assume, set_option, add_names, last_word, after, built, nothing_read, commands_by, sequent_by, name_pattern, named, with_leaf};
 
 use crate::action::{Action, Leaf, Step};
 use crate::builder::Builder;
-use crate::forms::{Command, Commands, Form, Shape, Word};
+use crate::forms::{Command, Commands, CubeNames, Form, RawSequent, Shape, Word};
 use crate::parts::leaf_form;
 use rz_lex::Token;
 use rz_rules::{Items, Name, OutOfMemory, Values};
@@ -156,6 +156,18 @@ impl Builder {
     }
 }
 
+// Sequents.
+impl Builder {
+    #[tactic(auto, unfolding(crate::specs::Building::with_names))]
+    fn add_names(&mut self, alloc: Global) -> Result<(), OutOfMemory>
+        ensures { OnOk result (self.new ≡ add_names self.old) }
+    {
+        let cube = self.take_operand().raw;
+        let names = self.take_words(alloc);
+        self.entries.push(CubeNames { names, cube })
+    }
+}
+
 // What is made of the last token.
 impl Builder {
     fn last_word(
@@ -294,6 +306,7 @@ impl Builder {
             }
             Action::CommandName => self.command_name(alloc, text, tokens, read),
             Action::AddWord => self.command_word(alloc, text, tokens, read),
+            Action::AddNames => self.add_names(alloc),
             Action::Define => self.define(alloc, read),
             Action::Postulate => self.postulate(alloc, read),
             Action::Check => self.check(read),
@@ -306,15 +319,15 @@ impl Builder {
     }
 }
 
-/// What the steps make of the tokens of a text.
-pub fn build(
+// What was read by the steps of the tokens of a text.
+fn builder_after(
     alloc: Global,
     text: &str,
     tokens: &[Token],
     steps: &[Step],
-) -> Result<Commands, OutOfMemory>
+) -> Result<Builder, OutOfMemory>
     requires { All (IsSpan text.now) tokens.now }
-    ensures { IfOk result (λ commands. commands ≡ commands_by text.now tokens.now steps.now) }
+    ensures { IfOk result (λ builder. builder ≡ built text.now tokens.now 0 steps.now nothing_read) }
 {
     let mut builder = Builder::new(alloc);
     let mut read = 0;
@@ -324,15 +337,57 @@ pub fn build(
             Step::Act(action) => builder.act(alloc, text, tokens, read, action)?,
         }
     }
+    Ok(builder)
+}
+
+/// What the steps make of the tokens of a text, as the commands of a file.
+pub fn build(
+    alloc: Global,
+    text: &str,
+    tokens: &[Token],
+    steps: &[Step],
+) -> Result<Commands, OutOfMemory>
+    requires { All (IsSpan text.now) tokens.now }
+    ensures { IfOk result (λ commands. commands ≡ commands_by text.now tokens.now steps.now) }
+{
     let Builder {
         shapes,
         forms,
         commands,
         ..
-    } = builder;
+    } = builder_after(alloc, text, tokens, steps)?;
     Ok(Commands {
         shapes,
         forms,
         list: commands,
+    })
+}
+
+/// What the steps make of the tokens of a text, as a sequent.
+#[tactic(auto, unfolding(crate::specs::Building::top_arguments, crate::specs::Building::without_operand, crate::specs::Building::without_arguments))]
+pub fn build_sequent(
+    alloc: Global,
+    text: &str,
+    tokens: &[Token],
+    steps: &[Step],
+) -> Result<RawSequent, OutOfMemory>
+    requires { All (IsSpan text.now) tokens.now }
+    ensures { IfOk result (λ sequent. sequent ≡ sequent_by text.now tokens.now steps.now) }
+{
+    let mut builder = builder_after(alloc, text, tokens, steps)?;
+    let goal = builder.take_operand().raw;
+    let hypotheses = builder.take_arguments(alloc);
+    let Builder {
+        shapes,
+        forms,
+        entries,
+        ..
+    } = builder;
+    Ok(RawSequent {
+        shapes,
+        forms,
+        names: entries,
+        hypotheses,
+        goal,
     })
 }

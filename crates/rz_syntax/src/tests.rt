@@ -1,7 +1,7 @@
-use crate::{Bind, Command, Commands, Form, ParseFault, Raw, RawFace, Shape, Word, parse};
+use crate::show::show_commands;
+use crate::{ParseFault, parse};
 use rz_lex::tokens;
 use std::alloc::{AllocError, Global};
-use std::fmt::Write;
 use std::test::Fail;
 
 // The answers to sources behind `#lang rzk-1`: none, or the number of the token of Syntax.
@@ -310,6 +310,9 @@ const TREES: &[(&str, &str)] = &[
     ),
 ];
 
+// How a file begins that has one term.
+const COMPUTE: &str = "#lang rzk-1 #compute ";
+
 // What stands before, what stands between, what stands after; how often before and after, so that
 // no token is too deep; and the token that is, where it is once more.
 const DEEP: &[(&str, &str, &str, u64, u64)] = &[
@@ -330,217 +333,14 @@ const DEEP: &[(&str, &str, &str, u64, u64)] = &[
     ("2 × ", "2", "", 3000, 0),
 ];
 
-fn show_raw(out: &mut String, raw: Raw) -> Result<(), AllocError> {
-    write!(out, "{}.{} ", raw.form, raw.at)
-}
-
-fn show_raws(out: &mut String, word: &str, raws: &[Raw]) -> Result<(), AllocError> {
-    write!(out, "{word} ")?;
-    for raw in raws {
-        show_raw(out, *raw)?;
-    }
-    Ok(())
-}
-
-fn show_faces(out: &mut String, faces: &[RawFace]) -> Result<(), AllocError> {
-    for face in faces {
-        let tope = face.tope;
-        write!(out, "{}.{}|", tope.form, tope.at)?;
-        show_raw(out, face.term)?;
-    }
-    Ok(())
-}
-
-fn show_binds(out: &mut String, binds: &[Bind]) -> Result<(), AllocError> {
-    for bind in binds {
-        write!(out, "{}.{}", bind.pat.shape, bind.pat.at)?;
-        if let Some(of) = bind.of {
-            write!(out, ":{}.{}", of.form, of.at)?;
-        }
-        if let Some(tope) = bind.tope {
-            write!(out, "|{}.{}", tope.form, tope.at)?;
-        }
-        write!(out, " ")?;
-    }
-    Ok(())
-}
-
-fn show_words(out: &mut String, words: &[Word]) -> Result<(), AllocError> {
-    for word in words {
-        write!(out, "{}.{} ", word.name.as_str(), word.at)?;
-    }
-    Ok(())
-}
-
-fn show_title(out: &mut String, name: &Option<Word>) -> Result<(), AllocError> {
-    match name {
-        Some(word) => write!(out, "{}.{} ", word.name.as_str(), word.at),
-        None => Ok(()),
-    }
-}
-
-fn show_shape(out: &mut String, shape: &Shape) -> Result<(), AllocError> {
-    match shape {
-        Shape::Named { name } => write!(out, "{} ", name.as_str()),
-        Shape::Blank => write!(out, "_ "),
-        Shape::Pair { left, right } => {
-            write!(
-                out,
-                "({}.{},{}.{}) ",
-                left.shape, left.at, right.shape, right.at
-            )
-        }
-    }
-}
-
-fn show_form(out: &mut String, form: &Form) -> Result<(), AllocError> {
-    match form {
-        Form::Named { name } => write!(out, "{} ", name.as_str()),
-        Form::ReflAt { term, of: None } => show_raws(out, "refl-at", &[*term]),
-        Form::ReflAt { term, of: Some(of) } => show_raws(out, "refl-at", &[*term, *of]),
-        Form::IdJ { parts } => show_raws(out, "id-j", parts.as_slice()),
-        Form::Pair { left, right } => show_raws(out, "pair", &[*left, *right]),
-        Form::App { head, args } => {
-            show_raws(out, "app", &[*head])?;
-            for arg in args.as_slice() {
-                show_raw(out, *arg)?;
-            }
-            Ok(())
-        }
-        Form::First { arg } => show_raws(out, "first", &[*arg]),
-        Form::Second { arg } => show_raws(out, "second", &[*arg]),
-        Form::Product { left, right } => show_raws(out, "product", &[*left, *right]),
-        Form::SamePoint { left, right } => show_raws(out, "same-point", &[*left, *right]),
-        Form::AtMost { left, right } => show_raws(out, "at-most", &[*left, *right]),
-        Form::Equal { left, right } => show_raws(out, "equal", &[*left, *right]),
-        Form::EqualAt { of, left, right } => show_raws(out, "equal-at", &[*of, *left, *right]),
-        Form::And { left, right } => show_raws(out, "and", &[*left, *right]),
-        Form::Or { left, right } => show_raws(out, "or", &[*left, *right]),
-        Form::As { term, of } => show_raws(out, "as", &[*term, *of]),
-        Form::RecOr { faces } => {
-            write!(out, "rec-or ")?;
-            show_faces(out, faces.as_slice())
-        }
-        Form::Restrict { body, faces } => {
-            show_raws(out, "restrict", &[*body])?;
-            show_faces(out, faces.as_slice())
-        }
-        Form::Arrow { bind, body } => {
-            write!(out, "arrow ")?;
-            show_binds(out, &[*bind])?;
-            show_raw(out, *body)
-        }
-        Form::Sigma { bind, body } => {
-            write!(out, "sigma ")?;
-            show_binds(out, &[*bind])?;
-            show_raw(out, *body)
-        }
-        Form::Lambda { binds, body } => {
-            write!(out, "lambda ")?;
-            show_binds(out, binds.as_slice())?;
-            show_raw(out, *body)
-        }
-        leaf => write!(out, "{leaf:?} "),
-    }
-}
-
-fn show_command(out: &mut String, command: &Command) -> Result<(), AllocError> {
-    match command {
-        Command::Def {
-            first,
-            count,
-            name,
-            uses,
-            binds,
-            of,
-            body,
-        } => {
-            write!(
-                out,
-                "def {first} {count} {}.{} ",
-                name.name.as_str(),
-                name.at
-            )?;
-            show_words(out, uses.as_slice())?;
-            show_binds(out, binds.as_slice())?;
-            show_raw(out, *of)?;
-            show_raw(out, *body)
-        }
-        Command::Post {
-            first,
-            count,
-            name,
-            uses,
-            binds,
-            of,
-        } => {
-            write!(
-                out,
-                "postulate {first} {count} {}.{} ",
-                name.name.as_str(),
-                name.at
-            )?;
-            show_words(out, uses.as_slice())?;
-            show_binds(out, binds.as_slice())?;
-            show_raw(out, *of)
-        }
-        Command::Check {
-            first,
-            count,
-            term,
-            of,
-        } => {
-            write!(out, "check {first} {count} ")?;
-            show_raw(out, *term)?;
-            show_raw(out, *of)
-        }
-        Command::Compute { first, count, term } => {
-            write!(out, "compute {first} {count} ")?;
-            show_raw(out, *term)
-        }
-        Command::Section { first, count, name } => {
-            write!(out, "section {first} {count} ")?;
-            show_title(out, name)
-        }
-        Command::End { first, count, name } => {
-            write!(out, "end {first} {count} ")?;
-            show_title(out, name)
-        }
-        Command::Assume {
-            first,
-            count,
-            names,
-            of,
-        } => {
-            write!(out, "assume {first} {count} ")?;
-            show_words(out, names.as_slice())?;
-            show_raw(out, *of)
-        }
-        Command::Option { first, count } => write!(out, "option {first} {count} "),
-    }
-}
-
-fn show(out: &mut String, commands: &Commands) -> Result<(), AllocError> {
-    for shape in commands.shapes.as_slice() {
-        show_shape(out, shape)?;
-    }
-    write!(out, "; ")?;
-    for form in commands.forms.as_slice() {
-        show_form(out, form)?;
-    }
-    write!(out, "; ")?;
-    for command in commands.list.as_slice() {
-        show_command(out, command)?;
-    }
-    Ok(())
-}
-
-fn repeated(
+/// A text that begins so, with what stands before and after so many times.
+pub fn repeated(
     alloc: Global,
+    begin: &str,
     deep: &(&str, &str, &str, u64, u64),
     times: u64,
 ) -> Result<String, AllocError> {
-    let mut source = String::from_str(alloc, "#lang rzk-1 #compute ")?;
+    let mut source = String::from_str(alloc, begin)?;
     for _ in 0..times {
         source.push_str(deep.0)?;
     }
@@ -601,7 +401,7 @@ fn trees_are_built(rt: HostRuntime) -> Result<(), Fail> {
             .ok()
             .ok_or("the tokens are a file")?;
         let mut out = String::new(rt.alloc());
-        show(&mut out, &commands)?;
+        show_commands(&mut out, &commands)?;
         assert_eq!(rt; out.as_str().trim_end(), *wanted, "in {source}");
     }
     Ok(())
@@ -610,14 +410,14 @@ fn trees_are_built(rt: HostRuntime) -> Result<(), Fail> {
 #[test]
 fn levels_end(rt: HostRuntime) -> Result<(), Fail> {
     for deep in DEEP {
-        let source = repeated(rt.alloc(), deep, deep.3)?;
+        let source = repeated(rt.alloc(), COMPUTE, deep, deep.3)?;
         assert_eq!(rt;
             fault_of(rt.alloc(), source.as_str()),
             None,
             "with {}",
             deep.0
         );
-        let source = repeated(rt.alloc(), deep, deep.3.saturating_add(1))?;
+        let source = repeated(rt.alloc(), COMPUTE, deep, deep.3.saturating_add(1))?;
         let wanted = if deep.4 == 0 {
             None
         } else {
@@ -631,7 +431,7 @@ fn levels_end(rt: HostRuntime) -> Result<(), Fail> {
         );
     }
     // A token too deep comes before an earlier fault of the grammar.
-    let source = repeated(rt.alloc(), &("= (", "", "", 0, 0), 201)?;
+    let source = repeated(rt.alloc(), COMPUTE, &("= (", "", "", 0, 0), 201)?;
     assert_eq!(rt;
         fault_of(rt.alloc(), source.as_str()),
         Some(ParseFault::TooNested { token: 404 })

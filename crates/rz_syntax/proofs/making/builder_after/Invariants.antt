@@ -1,6 +1,6 @@
 use Rattle.std.proofs.Common.{◌≡◌, ◌≤◌, drop}
 use Rattle.rz_syntax.specs.Building.{built, nothing_read}
-use Rattle.rz_syntax.proofs.making.build.Given as goal
+use Rattle.rz_syntax.proofs.making.builder_after.Given as goal
 
 abbrev pub invariant-loop-step : goal.invariant-loop-step
 invariant-loop-step l = record {
