@@ -1,0 +1,6 @@
+pub mod Readings
+pub mod Growth
+mod Outcomes
+mod PlanReadings
+mod Walking
+mod Within
