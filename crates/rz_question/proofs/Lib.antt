@@ -1,0 +1,5 @@
+mod Once
+mod Naming
+mod Opening
+mod Asking
+mod Deciding

@@ -1,0 +1,3 @@
+pub mod Sequent
+pub mod Decision
+pub mod Parts
