@@ -4,8 +4,11 @@
 mod app;
 mod command;
 mod page;
+mod refutation;
 
 pub use app::rzk;
 
 #[cfg(test)]
 mod tests;
+#[cfg(test)]
+mod tope_tests;

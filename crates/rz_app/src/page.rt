@@ -1,24 +1,29 @@
 //! The text of a call, composed whole before it is written.
 
-ghost use Rattle.std.specs.Prelude.{◌≡◌, ℕ, ◌≤◌, ◌++◌, List, Some, IfOk, map, codes, string_bytes};
-ghost use Rattle.rz_app.specs.Command.{Kernel, command};
-ghost use Rattle.rz_app.specs.Answer.{text_of, status_of, line};
+ghost use Rattle.std.specs.Prelude.{◌≡◌, ℕ, ◌≤◌, ◌++◌, List, [], Some, IfOk, map, codes, string_bytes};
+ghost use Rattle.rz_app.specs.Command.{Kernel, Tope, command};
+ghost use Rattle.rz_app.specs.Answer.{Writes, decision_status, decision_text, line, status_of, text_of};
 ghost use Rattle.rz_app.specs.Fault.{Composes};
 
 use crate::command::{Request, parse};
+use crate::refutation::refutation;
 use rz_io::{Files, ReadFault};
 use rz_kernel::{KernelAnswer, kernel};
+use rz_question::{Decision, decide};
 use rz_rules::{Bytes, OutOfMemory};
 use std::alloc::Global;
 
 /// The status where all went well.
 const DONE: u8 = 0;
 
-/// The status where something was refused.
+/// The status where a file is refused, or a sequent doesn't hold.
 const REFUSED: u8 = 1;
 
 /// The status where the words are no command.
 const NO_COMMAND: u8 = 2;
+
+/// The status where more coordinates occur in a sequent than are decided.
+const SILENT: u8 = 7;
 
 /// The status where a file can't be read.
 const CANNOT_READ: u8 = 3;
@@ -46,6 +51,7 @@ pub fn compose<F: Files>(
 {
     match parse(words) {
         Some(Request::Kernel(name)) => kernel_page(alloc, name, files),
+        Some(Request::Tope(sequent)) => tope_page(alloc, sequent),
         None => page_of(alloc, USAGE, NO_COMMAND),
     }
 }
@@ -75,6 +81,37 @@ fn answer_page(alloc: Global, answer: KernelAnswer) -> Result<Page, OutOfMemory>
         KernelAnswer::BadRow(line) => (format!(in alloc; "badrow {line}\n")?, REFUSED),
     };
     page_of(alloc, text.as_str(), status)
+}
+
+/// What is decided of a sequent, or that the text is none.
+fn tope_page(alloc: Global, sequent: &str) -> Result<Page, OutOfMemory>
+    ensures { IfOk result (λ page. Writes (Some (Tope sequent.now)) [] page.text page.status) }
+{
+    match decide(alloc, sequent)? {
+        Some(decision) => decision_page(alloc, decision),
+        None => page_of(alloc, USAGE, NO_COMMAND),
+    }
+}
+
+/// A decision as it is written.
+fn decision_page(alloc: Global, decision: Decision) -> Result<Page, OutOfMemory>
+    ensures text { IfOk result (λ page. page.text ≡ decision_text decision) }
+    ensures status { IfOk result (λ page. page.status ≡ decision_status decision) }
+{
+    match decision {
+        Decision::Yes(text) => Ok(Page { text, status: DONE }),
+        Decision::No { names, ranks } => {
+            let text = refutation(alloc, names.as_slice(), ranks.as_slice())?;
+            Ok(Page {
+                text,
+                status: REFUSED,
+            })
+        }
+        Decision::Silent(count) => {
+            let text = format!(in alloc; "silent {count}\n")?;
+            page_of(alloc, text.as_str(), SILENT)
+        }
+    }
 }
 
 /// The line on a file that can't be read.

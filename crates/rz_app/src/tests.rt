@@ -41,7 +41,7 @@ fn with_line(alloc: Global, number: usize, line: &str) -> Result<String, AllocEr
 }
 
 /// The status of a call whose steps nobody counts.
-fn call<F: Files, S: Sink>(
+pub fn call<F: Files, S: Sink>(
     alloc: Global,
     words: &[&str],
     files: &mut F,
@@ -81,7 +81,7 @@ fn one_file(alloc: Global, name: &str, bytes: &[u8]) -> Result<Vec<(Name, Bytes)
 
 /// Whether a call that answered this status, and whose sink took these bytes, ended as it should.
 /// Where memory ran out, and nothing was taken or a front of the text, that is an error.
-fn ended(status: u8, taken: &Bytes, wanted: u8, text: &[u8]) -> Result<bool, OutOfMemory> {
+pub fn ended(status: u8, taken: &Bytes, wanted: u8, text: &[u8]) -> Result<bool, OutOfMemory> {
     let taken = taken.as_slice();
     let broken_off = taken.len() < text.len() && text.starts_with(taken);
     if status == 5 && (taken.is_empty() || broken_off) {
@@ -112,7 +112,7 @@ fn refuses(alloc: Global, file: &[u8], line: &str) -> Result<bool, OutOfMemory> 
 #[test]
 fn words_that_are_no_command(rt: HostRuntime) -> Result<(), Fail> {
     let alloc = rt.alloc();
-    let rows: [&[&str]; 9] = [
+    let rows: [&[&str]; 11] = [
         &[],
         &["check", "-x"],
         &["kernel"],
@@ -122,6 +122,8 @@ fn words_that_are_no_command(rt: HostRuntime) -> Result<(), Fail> {
         &["Kernel", "total.drv"],
         &["kernels", "total.drv"],
         &["total.drv", "kernel"],
+        &["tope"],
+        &["tope", "| |- TOP", "| |- TOP"],
     ];
     for (place, words) in rows.iter().enumerate() {
         assert!(rt;

@@ -4,8 +4,8 @@
 
 mod stop;
 
-ghost use Rattle.std.specs.Prelude.{◌≡◌, ◌≢◌, ◌⊎◌, ◌<◌, None, IfOk, map, string_bytes};
-ghost use Rattle.rz_app.specs.Command.{command};
+ghost use Rattle.std.specs.Prelude.{◌≡◌, ◌≢◌, ◌⊎◌, ◌<◌, IfOk, map, string_bytes};
+ghost use Rattle.rz_app.specs.Command.{IsNoCommand, command};
 ghost use Rattle.rz_app.specs.Answer.{IsStatus};
 
 use rz_app::rzk;
@@ -37,7 +37,7 @@ fn run<L: Ledger>(rt: &HostRuntime, blank: Blank) -> Result<u8, Stop>
     requires name { blank.name ≡ L.name }
     requires parts { blank.parts ≡ L.parts }
     requires some { 0 < blank.parts }
-    ensures { IfOk result (λ status. status < 5) }
+    ensures { IfOk result (λ status. status ≢ 5) }
 {
     let words = words(rt)?;
     match call::<L>(rt, words.as_slice(), blank) {
@@ -55,7 +55,7 @@ fn call<L: Ledger>(rt: &HostRuntime, words: &[String], blank: Blank) -> u8
 
     ensures known { (result ≡ 3) ⊎ (result ≡ 4) ⊎ (result ≡ 5)
         ⊎ IsStatus (command (map string_bytes words.now)) result }
-    ensures no_command { command (map string_bytes words.now) ≡ None
+    ensures no_command { IsNoCommand (command (map string_bytes words.now))
         → result ≢ 4 → result ≢ 5 → result ≡ 2 }
 {
     let mut files = DiskFiles::new(rt);
