@@ -85,15 +85,15 @@ decision_status (decision.Yes bytes) = 0
 decision_status (decision.No names ranks) = 1
 decision_status (decision.Silent count) = 7
 
--- The text and the status on a sequent that holds: any file of derivations that claims it and nothing else; on one that
--- doesn't: any ranks that refute it; and where too many coordinates occur: their number.
-pub record TopeWrites (sequent : List ℕ) (text : List ℕ) (status : ℕ) : Type 0 where
+-- The text and the status on an operand that says a sequent. Where that holds: any file of derivations that claims it and
+-- nothing else; where it doesn't: any ranks that refute it; and where too many coordinates occur: their number.
+pub record TopeWrites (operand : List ℕ) (text : List ℕ) (status : ℕ) : Type 0 where
   pub decision : Decision
-  pub decided : IsDecided sequent decision
+  pub decided : IsDecided operand decision
   pub text_is : text ≡ decision_text decision
   pub status_is : status ≡ decision_status decision
 
--- the same on a text that is no sequent: the words are no command
+-- the same on words that are no command
 abbrev pub WritesUsage : List ℕ → ℕ → Type 0
 WritesUsage text status = (text ≡ usage) × (status ≡ 2)
 
@@ -112,9 +112,9 @@ abbrev pub Writes : Option Command → List (List ℕ) → List ℕ → ℕ → 
 Writes None contents text status = WritesUsage text status
 Writes (Some (Kernel file)) [] text status = ⊥
 Writes (Some (Kernel file)) (bytes ∷ contents) text status = KernelWrites bytes text status
-Writes (Some (Tope sequent)) [] text status =
-    TopeWrites sequent text status ⊎ IsNoSequent sequent × WritesUsage text status
-Writes (Some (Tope sequent)) (bytes ∷ contents) text status = ⊥
+Writes (Some (Tope operand)) [] text status =
+    TopeWrites operand text status ⊎ IsNoSequent operand × WritesUsage text status
+Writes (Some (Tope operand)) (bytes ∷ contents) text status = ⊥
 
 -- the text and the status of a command over what the store tells
 pub record AnswersCommand
@@ -131,10 +131,10 @@ Answers words told text status = AnswersCommand (command words) told text status
 abbrev pub IsStatus : Option Command → ℕ → Type 0
 IsStatus None status = status ≡ 2
 IsStatus (Some (Kernel file)) status = (status ≡ 0) ⊎ (status ≡ 1)
-IsStatus (Some (Tope sequent)) status = (status ≡ 0) ⊎ (status ≡ 1) ⊎ (status ≡ 2) ⊎ (status ≡ 7)
+IsStatus (Some (Tope operand)) status = (status ≡ 0) ⊎ (status ≡ 1) ⊎ (status ≡ 2) ⊎ (status ≡ 7)
 
 -- how many steps a call counts that answers this status: none, since nothing is judged
 abbrev pub CountsSteps : Option Command → (List ℕ → Told) → ℕ → ℕ → Type 0
 CountsSteps None told status steps = steps ≡ 0
 CountsSteps (Some (Kernel file)) told status steps = steps ≡ 0
-CountsSteps (Some (Tope sequent)) told status steps = steps ≡ 0
+CountsSteps (Some (Tope operand)) told status steps = steps ≡ 0

@@ -9,8 +9,8 @@ use Rattle.rz_app.specs.declared.command.Request.TheVariants as request
 -- a command with its operands
 pub data Command : Type 0 where
   Kernel : (file : List ℕ) → Command
-  -- what stands behind the word is to be a sequent
-  Tope : (sequent : List ℕ) → Command
+  -- the operand is to be a sequent
+  Tope : (operand : List ℕ) → Command
 
 -- an operand is not empty and doesn't begin with `-`
 abbrev pub is_operand : List ℕ → Bool
@@ -42,7 +42,7 @@ new_names earlier (name ∷ names) =
 -- the operands of a command that name files, in their order
 abbrev pub file_operands : Command → List (List ℕ)
 file_operands (Kernel file) = file ∷ []
-file_operands (Tope sequent) = []
+file_operands (Tope operand) = []
 
 -- the files that a command reads, in their order: each name counts once, at its first place
 abbrev pub files_of : Option Command → List (List ℕ)
@@ -50,18 +50,18 @@ files_of None = []
 files_of (Some asked) = new_names [] (file_operands asked)
 
 -- a request as the command that it asks for
-abbrev pub asked : Request → Command
-asked (request.Kernel file) = Kernel file.now
-asked (request.Tope sequent) = Tope sequent.now
+abbrev pub request_command : Request → Command
+request_command (request.Kernel file) = Kernel file.now
+request_command (request.Tope operand) = Tope operand.now
 
 -- The words are no command: they have the form of none, or what is to be a sequent is none.
 abbrev pub IsNoCommand : Option Command → Type 0
 IsNoCommand None = Unit {0}
 IsNoCommand (Some (Kernel file)) = ⊥
-IsNoCommand (Some (Tope sequent)) = IsNoSequent sequent
+IsNoCommand (Some (Tope operand)) = IsNoSequent operand
 
 -- the words ask about this sequent
 abbrev pub AsksAbout : Option Command → Sequent → Type 0
 AsksAbout None sequent = ⊥
 AsksAbout (Some (Kernel file)) sequent = ⊥
-AsksAbout (Some (Tope text)) sequent = SaysSequent text sequent
+AsksAbout (Some (Tope operand)) sequent = SaysSequent operand sequent

@@ -2,19 +2,19 @@
 
 ghost use Rattle.std.specs.Prelude.{◌≡◌, map, string_bytes};
 ghost use Rattle.std.specs.Option.{option_map};
-ghost use Rattle.rz_app.specs.Command.{command, command_of, is_operand, asked};
+ghost use Rattle.rz_app.specs.Command.{command, command_of, is_operand, request_command};
 
 /// A command with its operands, lent from the words.
 pub enum Request<'a> {
     /// Asks the kernel about a file of this name.
     Kernel(&'a str),
-    /// Asks whether this sequent holds, if the text is one.
+    /// Asks whether the sequent that this text says holds, if it says one.
     Tope(&'a str),
 }
 
 /// What the words after the program's name ask for; `None` where they have the form of no command.
 pub fn parse<'a>(words: &'a [String]) -> Option<Request<'a>>
-    ensures { option_map asked result ≡ command (map string_bytes words.now) }
+    ensures { option_map request_command result ≡ command (map string_bytes words.now) }
 {
     match words {
         [word, operand] if is_operand(operand.as_str()) => {
@@ -26,7 +26,7 @@ pub fn parse<'a>(words: &'a [String]) -> Option<Request<'a>>
 
 /// What a word with an operand asks for.
 fn command_of<'a>(word: &str, operand: &'a str) -> Option<Request<'a>>
-    ensures { option_map asked result ≡ command_of word.now operand.now }
+    ensures { option_map request_command result ≡ command_of word.now operand.now }
 {
     match word {
         "kernel" => Some(Request::Kernel(operand)),

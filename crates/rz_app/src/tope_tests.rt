@@ -41,6 +41,9 @@ const FALLING: &str =
 const NINE: &str =
     "a b c d e f g h i : 2 | a <= b, b <= c, c <= d, d <= e, e <= f, f <= g, g <= h, h <= i |- a <= i";
 
+const NINE_AS_GOAL: &str =
+    "a b c d e f g h i : 2 | |- a <= b \\/ c <= d \\/ e <= f \\/ g <= h \\/ i <= a";
+
 const EIGHT_PARTS: &str =
     "p q r s : 2 × 2 | first p <= second p, second p <= first q, first q <= second q, second q <= first r, first r <= second r, second r <= first s, first s <= second s |- first p <= second s";
 
@@ -85,6 +88,10 @@ const HOLD: &[&str] = &[
     "t s : 2 | t ≤ s ∧ s ≤ t ⊢ t ≡ s ∨ ⊥",
     "{- two\nlines -} t : 2 -- to the end\n | t ≡ 0₂ ⊢ t ≤ 1₂",
     "t : 2, s : 2, p : 2 × 2 | p === (t , s), second p === 0_2 |- s <= t",
+    "t : 2, s : 2 | s <= t |- t === 1_2 \\/ s <= t",
+    "t : 2 × 2 | π₁ t <= π₂ t |- first t <= second t",
+    "||- TOP",
+    " -- a comment\n| |- TOP",
 ];
 
 /// Other sequents, and what is no sequent.
@@ -110,6 +117,7 @@ const OTHERS: &[(&str, Want)] = &[
         Want::No("no\np.r 3/3\np.l.l 0/3\n"),
     ),
     ("t s : 2 | |- t <= s", Want::Refuted),
+    ("t s : 2 | t <= s |- s <= t", Want::Refuted),
     ("t s : 2 | t <= s |- t === s", Want::Refuted),
     ("r s t : 2 | r <= s, r <= t |- s <= t", Want::Refuted),
     (
@@ -120,8 +128,13 @@ const OTHERS: &[(&str, Want)] = &[
         "p q : 2 × 2 | first p === first q |- p === q",
         Want::Refuted,
     ),
+    (
+        "a : 2, p : (2 × 1) × 2 | second p === 1_2 |- first (first p) === 1_2",
+        Want::Refuted,
+    ),
     (BACKWARDS, Want::Refuted),
     (NINE, Want::Silent(9)),
+    (NINE_AS_GOAL, Want::Silent(9)),
     (NINE_PARTS, Want::Silent(9)),
     // The tokens or the grammar.
     ("t : 2 | t <= |- TOP", Want::Usage),
@@ -154,7 +167,13 @@ const OTHERS: &[(&str, Want)] = &[
     ("t : 2 | |- t", Want::Usage),
     ("t : 2 | |- U", Want::Usage),
     ("t : 2 | |- \\ s -> TOP", Want::Usage),
+    ("| |- 2", Want::Usage),
+    ("| |- CUBE", Want::Usage),
+    ("t : 2 | |- (t , t)", Want::Usage),
     ("t : 2 | |- t <= TOP", Want::Usage),
+    ("t : 2 | |- t <= 2", Want::Usage),
+    ("t : 2 | |- t as 2 <= t", Want::Usage),
+    ("| |- *_1 <= *_1", Want::Usage),
     ("t : 2 × 2 | |- t <= t", Want::Usage),
     ("t : 2 × 2, s : 2 | |- t === s", Want::Usage),
     ("t : 2 | |- first t === 0_2", Want::Usage),
@@ -264,6 +283,12 @@ fn sequents_at_their_bounds(rt: HostRuntime) -> Result<(), Fail> {
             "{count} leaves"
         );
     }
+    let factors = repeated(alloc, " × 2", 63)?;
+    let sequent = format!(in alloc; "t : 2{factors} | |- t === t")?;
+    assert!(rt;
+        is_answered(alloc, sequent.as_str(), Want::Silent(64))?,
+        "64 coordinates"
+    );
     let factors = repeated(alloc, " × 1", 63)?;
     let wide = format!(in alloc; "t : 1{factors} | |- (t , *_1) === (t , *_1)")?;
     assert!(rt;

@@ -14,6 +14,3 @@ pub use decision::{Decision, decide};
 pub use laws::one_sequent;
 pub use reading::question;
 pub use sequent::Question;
-
-#[cfg(test)]
-mod tests;

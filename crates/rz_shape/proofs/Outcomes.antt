@@ -12,7 +12,7 @@ use Rattle.rz_reading.specs.Same.{same_tree}
 use Rattle.rz_reading.proofs.Same.{same_tree-Decides}
 use Rattle.rz_shape.specs.declared.steps.Outcome.{Outcome}
 use Rattle.rz_syntax.specs.declared.forms.Raw.{Raw}
-use Rattle.rz_shape.specs.Reading.{and_then, at_most, of_cube, pair, refused, unless_wide}
+use Rattle.rz_shape.specs.Reading.{and_then, at_most, of_cube, pair, refusal, unless_wide}
 use Rattle.rz_shape.specs.Walk.{IsThere, alone, outcome_of}
 
 -- two tests that say the same are one
@@ -50,7 +50,7 @@ module _ (ns ms : List Node) (grows : Grows ns ms) (l r : Outcome) (left : IsThe
   order_is place kids are two =
       let first = sym (KeepsTrees-Grows ns ms grows l.node left.node) in
       let last = sym (KeepsTrees-Grows ns ms grows r.node right.node) in
-      ap (λ (same : Bool). and_then (if same then Ok (tree_of ns r.node) else refused BadPoint place) (λ point. Ok (alone (at_most (tree_of ns l.node) point)))) two
+      ap (λ (same : Bool). and_then (if same then Ok (tree_of ns r.node) else refusal BadPoint place) (λ point. Ok (alone (at_most (tree_of ns l.node) point)))) two
       ∙ (λ i. Ok (alone (At AtMost 0 [] (And (first i) (And (last i) Nil)))))
       ∙ ap (λ (kids : List ℕ). Ok (alone (At AtMost 0 [] (trees_of (map (tree_of ms) kids))))) (sym are)
 
@@ -64,6 +64,6 @@ module _ (ns ms : List Node) (grows : Grows ns ms) (l r : Outcome) (left : IsThe
       let last = sym (KeepsTrees-Grows ns ms grows r.node right.node) in
       let made : product (tree_of ns l.cube) (tree_of ns r.cube) ≡ tree_of ms cube =
       sym (is ∙ ap (λ (cubes : List ℕ). At Product 0 [] (trees_of (map (tree_of ns) cubes))) of) in
-      ap (λ (wide : Bool). if wide then refused WideCube whole else Ok (pair (outcome_of ns l) (outcome_of ns r))) narrow
+      ap (λ (wide : Bool). if wide then refusal WideCube whole else Ok (pair (outcome_of ns l) (outcome_of ns r))) narrow
       ∙ (λ i. Ok (record { point = At PointPair 0 [] (And (first i) (And (last i) Nil)); cube = made i }))
       ∙ ap (λ (kids : List ℕ). Ok (record { point = At PointPair 0 [] (trees_of (map (tree_of ms) kids)); cube = tree_of ms cube })) (sym are)

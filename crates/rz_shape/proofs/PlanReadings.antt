@@ -11,7 +11,7 @@ use Rattle.rz_syntax.specs.declared.forms.Form.TheVariants as form
 use Rattle.rz_shape.specs.declared.steps.Target.{Target}
 use Rattle.rz_shape.specs.declared.steps.Target.TheVariants.{Cube, Point, Tope}
 use Rattle.rz_shape.specs.declared.steps.Join.TheVariants.{Product, SamePoint, AtMost}
-use Rattle.rz_shape.specs.Reading.{Reading, Bindings, PlacedPoint, and_then, refused, unless_wide, cube_of_form, cube_reading, point_of_form, point_reading, tope_of_form, tope_reading, of_cube, point_of_cube, both, same_points, equal_points, at_most, conjunction, disjunction}
+use Rattle.rz_shape.specs.Reading.{Reading, Bindings, PlacedPoint, and_then, refusal, unless_wide, cube_of_form, cube_reading, point_of_form, point_reading, tope_of_form, tope_reading, of_cube, point_of_cube, both, same_points, equal_points, at_most, conjunction, disjunction}
 use Rattle.rz_shape.specs.Walk.{alone, join_reading, left_reading, path_of, plan_of, cube_plan, point_plan, tope_plan, plan_reading, reading_of}
 
 abbrev with_alone : Reading Tree → Reading PlacedPoint
@@ -30,7 +30,7 @@ next_same (Err fault) next other same = refl
 -- ---- two parts
 
 wide_alone : (raw : Raw) (cube : Tree) (wide : Bool)
-    → with_alone (if wide then refused WideCube raw else Ok cube) ≡ (if wide then refused WideCube raw else Ok (alone cube))
+    → with_alone (if wide then refusal WideCube raw else Ok cube) ≡ (if wide then refusal WideCube raw else Ok (alone cube))
 wide_alone raw cube true = refl
 wide_alone raw cube false = refl
 
@@ -55,7 +55,7 @@ same_two whole place (Ok s) (Err fault) = refl
 same_two whole place (Ok s) (Ok u) = assoc (of_cube place s.cube u) (λ point. Ok (equal_points s.cube s.point point)) (λ tree. Ok (alone tree))
 
 within_left : (left : Raw) (s : PlacedPoint) (is : Bool) {B : Type 0} (next : Tree → Reading B)
-    → and_then (if is then Ok s.point else refused BadPoint left) next ≡ and_then (if is then Ok s else refused BadPoint left) (λ s'. next s'.point)
+    → and_then (if is then Ok s.point else refusal BadPoint left) next ≡ and_then (if is then Ok s else refusal BadPoint left) (λ s'. next s'.point)
 within_left left s true next = refl
 within_left left s false next = refl
 
@@ -116,7 +116,7 @@ module _ (bound : Bindings) (forms : List Form) (depth : ℕ) (raw : Raw) where
       ∙ tope_form form
 
   -- and one that isn't
-  no_form : (target : Target) → slice_get forms raw.form ≡ None → reading_of bound forms target (suc depth) raw ≡ refused KindClash raw
+  no_form : (target : Target) → slice_get forms raw.form ≡ None → reading_of bound forms target (suc depth) raw ≡ refusal KindClash raw
   no_form Cube at = ap (λ (found : Option Form). with_alone (cube_of_form (cube_reading forms depth) raw found)) at
   no_form Point at = ap (λ (found : Option Form). point_of_form bound (point_reading bound forms depth) raw found) at
   no_form Tope at =
@@ -132,12 +132,12 @@ reading_there bound forms target depth raw form some at =
     ap (λ (d : ℕ). reading_of bound forms target d raw) (sym (from_below depth some)) ∙ some_form bound forms (depth - 1) raw target form at
 
 pub reading_absent : (bound : Bindings) (forms : List Form) (target : Target) (depth : ℕ) (raw : Raw) → 0 < depth → slice_get forms raw.form ≡ None
-    → reading_of bound forms target depth raw ≡ refused KindClash raw
+    → reading_of bound forms target depth raw ≡ refusal KindClash raw
 reading_absent bound forms target depth raw some at =
     ap (λ (d : ℕ). reading_of bound forms target d raw) (sym (from_below depth some)) ∙ no_form bound forms (depth - 1) raw target at
 
 -- nothing is read at depth 0
-pub reading_zero : (bound : Bindings) (forms : List Form) (target : Target) (raw : Raw) → reading_of bound forms target zero raw ≡ refused KindClash raw
+pub reading_zero : (bound : Bindings) (forms : List Form) (target : Target) (raw : Raw) → reading_of bound forms target zero raw ≡ refusal KindClash raw
 reading_zero bound forms Cube raw = refl
 reading_zero bound forms Point raw = refl
 reading_zero bound forms Tope raw = refl

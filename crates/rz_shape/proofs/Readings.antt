@@ -14,7 +14,7 @@ use Rattle.rz_reading.proofs.Same.{same_tree-Decides}
 use Rattle.rz_syntax.specs.declared.forms.Raw.{Raw}
 use Rattle.rz_syntax.specs.declared.forms.Form.{Form}
 use Rattle.rz_syntax.specs.declared.forms.Form.TheVariants as form
-use Rattle.rz_shape.specs.Reading.{Reading, Bindings, PlacedPoint, and_then, refused, unless_wide, placed, variable_of_cube, cube_of_form, cube_reading, point_of_form, point_reading, tope_of_form, tope_reading, first_part, second_part, part_along, variable_in, of_cube, point_of_cube, pair, both, equal_points, conjunction, disjunction, at_most}
+use Rattle.rz_shape.specs.Reading.{Reading, Bindings, PlacedPoint, and_then, refusal, unless_wide, projection, variable_of_cube, cube_of_form, cube_reading, point_of_form, point_reading, tope_of_form, tope_reading, first_part, second_part, part_along, variable_in, of_cube, point_of_cube, pair, both, equal_points, conjunction, disjunction, at_most}
 
 -- what holds of what is read, if anything is
 abbrev pub IfRead : {T : Type 0} → (T → Type 0) → Reading T → Type 0
@@ -38,7 +38,7 @@ pub record IsNarrow (cube : Tree) : Type 0 where
   pub few : leaves cube ≤ 64
 
 narrow_product : (raw : Raw) (l r : Tree) (wide : Bool) → nat_lt 64 (leaves (product l r)) ≡ wide
-    → IfRead IsNarrow (if wide then refused WideCube raw else Ok (product l r))
+    → IfRead IsNarrow (if wide then refusal WideCube raw else Ok (product l r))
 narrow_product raw l r true e = tt
 narrow_product raw l r false e = record { sort = refl; few = ltb-false 64 (leaves (product l r)) e }
 
@@ -65,18 +65,18 @@ module _ (bound : Bindings) where
   abbrev IsOver : Tree → Type 0
   IsOver tope = IsTopeOver (record { cubes = bound.cubes }) tope
 
-  placed_is : (raw : Raw) (point : Tree) (cube : Option Tree) → cube_of (record { cubes = bound.cubes }) point ≡ cube → IfRead IsPlaced (placed raw point cube)
-  placed_is raw point (Some cube) e = e
-  placed_is raw point None e = tt
+  projection_is : (raw : Raw) (point : Tree) (cube : Option Tree) → cube_of (record { cubes = bound.cubes }) point ≡ cube → IfRead IsPlaced (projection raw point cube)
+  projection_is raw point (Some cube) e = e
+  projection_is raw point None e = tt
 
   first_is : (raw : Raw) (s : PlacedPoint) → IsPlaced s → IfRead IsPlaced (first_part raw s)
-  first_is raw s h = placed_is raw (At kind.PointLeft 0 [] (And s.point Nil)) (left_part s.cube) (ap (option_and_then left_part) h)
+  first_is raw s h = projection_is raw (At kind.PointLeft 0 [] (And s.point Nil)) (left_part s.cube) (ap (option_and_then left_part) h)
 
   second_is : (raw : Raw) (s : PlacedPoint) → IsPlaced s → IfRead IsPlaced (second_part raw s)
-  second_is raw s h = placed_is raw (At kind.PointRight 0 [] (And s.point Nil)) (right_part s.cube) (ap (option_and_then right_part) h)
+  second_is raw s h = projection_is raw (At kind.PointRight 0 [] (And s.point Nil)) (right_part s.cube) (ap (option_and_then right_part) h)
 
   half_is : (raw : Raw) (left right : Bool) (s : PlacedPoint) → IsPlaced s
-      → IfRead IsPlaced (if left then first_part raw s else if right then second_part raw s else refused BadPoint raw)
+      → IfRead IsPlaced (if left then first_part raw s else if right then second_part raw s else refusal BadPoint raw)
   half_is raw true right s h = first_is raw s h
   half_is raw false true s h = second_is raw s h
   half_is raw false false s h = tt
@@ -84,7 +84,7 @@ module _ (bound : Bindings) where
   along_is : (raw : Raw) (path : List ℕ) (s : PlacedPoint) → IsPlaced s → IfRead IsPlaced (part_along raw path s)
   along_is raw [] s h = h
   along_is raw (letter ∷ path) s h =
-      IfRead-and_then IsPlaced IsPlaced (if letter == LEFT then first_part raw s else if letter == RIGHT then second_part raw s else refused BadPoint raw) (part_along raw path)
+      IfRead-and_then IsPlaced IsPlaced (if letter == LEFT then first_part raw s else if letter == RIGHT then second_part raw s else refusal BadPoint raw) (part_along raw path)
       (half_is raw (letter == LEFT) (letter == RIGHT) s h) (along_is raw path)
 
   entry_is : (raw : Raw) (index : ℕ) (cube : Option Tree) → slice_get bound.cubes index ≡ cube → IfRead IsPlaced (variable_of_cube raw index cube)
@@ -96,7 +96,7 @@ module _ (bound : Bindings) where
   variable_is raw (Some None) = tt
   variable_is raw None = tt
 
-  pair_is : (raw : Raw) (s u : PlacedPoint) (wide : Bool) → IsPlaced s → IsPlaced u → IfRead IsPlaced (if wide then refused WideCube raw else Ok (pair s u))
+  pair_is : (raw : Raw) (s u : PlacedPoint) (wide : Bool) → IsPlaced s → IsPlaced u → IfRead IsPlaced (if wide then refusal WideCube raw else Ok (pair s u))
   pair_is raw s u true hs hu = tt
   pair_is raw s u false hs hu = λ i. option_and_then (λ l. option_and_then (λ r. Some (product l r)) (hu i)) (hs i)
 
@@ -121,7 +121,7 @@ module _ (bound : Bindings) where
   point_is forms (suc depth) raw = point_form (point_reading bound forms depth) raw (slice_get forms raw.form) (point_is forms depth)
 
   same_is : (raw : Raw) (cube : Tree) (s : PlacedPoint) (same : Bool) → same_tree s.cube cube ≡ same → IsPlaced s
-      → IfRead (IsPointOf (record { cubes = bound.cubes }) cube) (if same then Ok s.point else refused BadPoint raw)
+      → IfRead (IsPointOf (record { cubes = bound.cubes }) cube) (if same then Ok s.point else refusal BadPoint raw)
   same_is raw cube s true e h = subst (λ (of : Tree). IsPointOf (record { cubes = bound.cubes }) of s.point) ((same_tree-Decides s.cube cube).0 e) h
   same_is raw cube s false e h = tt
 

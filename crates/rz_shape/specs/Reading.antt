@@ -25,8 +25,8 @@ and_then (Ok read) next = next read
 and_then (Err fault) next = Err fault
 
 -- a refusal at a form's first token
-abbrev pub refused : {T : Type 0} → Refusal → Raw → Reading T
-refused why raw = Err (Refused why raw.at)
+abbrev pub refusal : {T : Type 0} → Refusal → Raw → Reading T
+refusal why raw = Err (Refused why raw.at)
 
 -- the most leaves that a cube may have
 abbrev pub most_leaves : ℕ
@@ -34,7 +34,7 @@ most_leaves = 64
 
 -- what is read, unless the cube has too many leaves
 abbrev pub unless_wide : {T : Type 0} → Raw → Tree → T → Reading T
-unless_wide raw cube read = if nat_lt most_leaves (leaves cube) then refused WideCube raw else Ok read
+unless_wide raw cube read = if nat_lt most_leaves (leaves cube) then refusal WideCube raw else Ok read
 
 -- ---- cubes
 
@@ -44,12 +44,12 @@ cube_of_form part raw (Some form.CubeOne) = Ok cube_one
 cube_of_form part raw (Some form.CubeTwo) = Ok cube_two
 cube_of_form part raw (Some (form.Product left right)) =
     and_then (part left) (λ l. and_then (part right) (λ r. unless_wide raw (product l r) (product l r)))
-cube_of_form part raw other = refused KindClash raw
+cube_of_form part raw other = refusal KindClash raw
 
 -- The cube that the form with this number in a table is. Forms stand at most so deep in one another; the length of a
 -- table always suffices where parts stand before what they are parts of.
 abbrev pub cube_reading : List Form → ℕ → Raw → Reading Tree
-cube_reading forms zero raw = refused KindClash raw
+cube_reading forms zero raw = refusal KindClash raw
 cube_reading forms (suc depth) raw = cube_of_form (cube_reading forms depth) raw (slice_get forms raw.form)
 
 -- ---- what bound names stand for
@@ -94,34 +94,35 @@ abbrev pub pair : PlacedPoint → PlacedPoint → PlacedPoint
 pair s u =
     record { point = At kind.PointPair 0 [] (And s.point (And u.point Nil)); cube = product s.cube u.cube }
 
--- a point of a cube, where there is one, else a bad point at the form
-abbrev pub placed : Raw → Tree → Option Tree → Reading PlacedPoint
-placed raw point (Some cube) = Ok (record { point = point; cube = cube })
-placed raw point None = refused BadPoint raw
+-- a projection of a point, where it has a cube, else a bad point at the form
+abbrev pub projection : Raw → Tree → Option Tree → Reading PlacedPoint
+projection raw point (Some cube) = Ok (record { point = point; cube = cube })
+projection raw point None = refusal BadPoint raw
 
 -- the two parts of a point; the form at which a refusal stands is that of the point
 abbrev pub first_part : Raw → PlacedPoint → Reading PlacedPoint
-first_part raw s = placed raw (At kind.PointLeft 0 [] (And s.point Nil)) (left_part s.cube)
+first_part raw s = projection raw (At kind.PointLeft 0 [] (And s.point Nil)) (left_part s.cube)
 
 abbrev pub second_part : Raw → PlacedPoint → Reading PlacedPoint
-second_part raw s = placed raw (At kind.PointRight 0 [] (And s.point Nil)) (right_part s.cube)
+second_part raw s = projection raw (At kind.PointRight 0 [] (And s.point Nil)) (right_part s.cube)
 
--- the part of a point at the end of a path, whose first letter is the outermost projection from the whole
+-- the part of a point at the end of a path; its first letter names the part of the point itself, the next one the part of
+-- that part
 abbrev pub part_along : Raw → List ℕ → PlacedPoint → Reading PlacedPoint
 part_along raw [] s = Ok s
 part_along raw (letter ∷ path) s =
-    and_then (if letter == LEFT then first_part raw s else if letter == RIGHT then second_part raw s else refused BadPoint raw)
+    and_then (if letter == LEFT then first_part raw s else if letter == RIGHT then second_part raw s else refusal BadPoint raw)
     (part_along raw path)
 
 -- a variable as a point of its cube, where the context has an entry for it
 abbrev pub variable_of_cube : Raw → ℕ → Option Tree → Reading PlacedPoint
 variable_of_cube raw index (Some cube) = Ok (record { point = variable index; cube = cube })
-variable_of_cube raw index None = refused KindClash raw
+variable_of_cube raw index None = refusal KindClash raw
 
 -- what a binder binds as a point; a term is none
 abbrev pub variable_in : List Tree → Raw → Option (Option ℕ) → Reading PlacedPoint
 variable_in cubes raw (Some (Some index)) = variable_of_cube raw index (slice_get cubes index)
-variable_in cubes raw other = refused KindClash raw
+variable_in cubes raw other = refusal KindClash raw
 
 -- the point that a form is, where its parts are read so
 abbrev pub point_of_form : Bindings → (Raw → Reading PlacedPoint) → Raw → Option Form → Reading PlacedPoint
@@ -134,17 +135,17 @@ point_of_form bound part raw (Some (form.Pair left right)) =
     and_then (part left) (λ s. and_then (part right) (λ u. unless_wide raw (product s.cube u.cube) (pair s u)))
 point_of_form bound part raw (Some (form.First arg)) = and_then (part arg) (first_part arg)
 point_of_form bound part raw (Some (form.Second arg)) = and_then (part arg) (second_part arg)
-point_of_form bound part raw other = refused KindClash raw
+point_of_form bound part raw other = refusal KindClash raw
 
 -- the point that a form is, and its cube
 abbrev pub point_reading : Bindings → List Form → ℕ → Raw → Reading PlacedPoint
-point_reading bound forms zero raw = refused KindClash raw
+point_reading bound forms zero raw = refusal KindClash raw
 point_reading bound forms (suc depth) raw =
     point_of_form bound (point_reading bound forms depth) raw (slice_get forms raw.form)
 
 -- a point, where it is of a cube; else a bad point at the form
 abbrev pub of_cube : Raw → Tree → PlacedPoint → Reading Tree
-of_cube raw cube s = if same_tree s.cube cube then Ok s.point else refused BadPoint raw
+of_cube raw cube s = if same_tree s.cube cube then Ok s.point else refusal BadPoint raw
 
 -- the point of a cube that a form is
 abbrev pub point_of_cube : Bindings → List Form → ℕ → Tree → Raw → Reading Tree
@@ -187,11 +188,11 @@ tope_of_form tope point within raw (Some (form.Or left right)) = both (tope left
 tope_of_form tope point within raw (Some (form.SamePoint left right)) = same_points (point left) (λ cube. within cube right)
 tope_of_form tope point within raw (Some (form.AtMost left right)) =
     both (within cube_two left) (within cube_two right) at_most
-tope_of_form tope point within raw other = refused KindClash raw
+tope_of_form tope point within raw other = refusal KindClash raw
 
 -- the tope that a form is
 abbrev pub tope_reading : Bindings → List Form → ℕ → Raw → Reading Tree
-tope_reading bound forms zero raw = refused KindClash raw
+tope_reading bound forms zero raw = refusal KindClash raw
 tope_reading bound forms (suc depth) raw =
     tope_of_form (tope_reading bound forms depth) (point_reading bound forms depth) (point_of_cube bound forms depth) raw
     (slice_get forms raw.form)

@@ -22,7 +22,7 @@ use Rattle.rz_shape.specs.declared.steps.Frame.{Frame}
 use Rattle.rz_shape.specs.declared.steps.Frame.TheVariants.{Left, Right, First, Second}
 use Rattle.rz_shape.specs.declared.steps.Step.{Step}
 use Rattle.rz_shape.specs.declared.steps.Step.TheVariants.{Done, Under}
-use Rattle.rz_shape.specs.Reading.{Reading, Bindings, PlacedPoint, and_then, refused, unless_wide, cube_reading, point_reading, tope_reading, only_point, zero_end, one_end, pair, variable_in, part_along, first_part, second_part, of_cube, top, bottom, conjunction, disjunction, equal_points, at_most}
+use Rattle.rz_shape.specs.Reading.{Reading, Bindings, PlacedPoint, and_then, refusal, unless_wide, cube_reading, point_reading, tope_reading, only_point, zero_end, one_end, pair, variable_in, part_along, first_part, second_part, of_cube, top, bottom, conjunction, disjunction, equal_points, at_most}
 
 -- ---- readings of all sorts
 
@@ -49,7 +49,7 @@ target_of AtMost = Point
 
 -- what is asked of the left part before the right one is read
 abbrev pub left_reading : Join → Raw → PlacedPoint → Reading PlacedPoint
-left_reading AtMost left s = if same_tree s.cube cube_two then Ok s else refused BadPoint left
+left_reading AtMost left s = if same_tree s.cube cube_two then Ok s else refusal BadPoint left
 left_reading other left s = Ok s
 
 -- what both parts make: the whole form, the right part, and what the two parts were read as
@@ -118,12 +118,12 @@ plan_reading bound forms depth raw path (plan.Two join left right) =
     and_then (reading_of bound forms (target_of join) depth left) (λ s.
     and_then (left_reading join left s) (λ s'.
     and_then (reading_of bound forms (target_of join) depth right) (join_reading join raw right s')))
-plan_reading bound forms depth raw path plan.Clash = refused KindClash raw
+plan_reading bound forms depth raw path plan.Clash = refusal KindClash raw
 
 -- the part of a point that a letter of a path names
 abbrev pub half_reading : ℕ → Raw → PlacedPoint → Reading PlacedPoint
 half_reading letter raw s =
-    if letter == LEFT then first_part raw s else if letter == RIGHT then second_part raw s else refused BadPoint raw
+    if letter == LEFT then first_part raw s else if letter == RIGHT then second_part raw s else refusal BadPoint raw
 
 -- ---- outcomes, frames and steps
 

@@ -6,7 +6,8 @@ use std::alloc::AllocFailed;
 /// Why a form is not read.
 #[derive(Debug, Drop, PartialEq, Eq)]
 pub enum ShapeFault {
-    /// The form is refused. `at` is the number of a token within the form's command.
+    /// The form is refused. `at` is the number of a token within the form's command, or within the
+    /// text where that is a sequent.
     Refused { why: Refusal, at: u64 },
     /// Memory ran out. This can be the answer to any form.
     OutOfMemory,

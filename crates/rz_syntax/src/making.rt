@@ -327,7 +327,8 @@ fn builder_after(
     steps: &[Step],
 ) -> Result<Builder, OutOfMemory>
     requires { All (IsSpan text.now) tokens.now }
-    ensures { IfOk result (λ builder. builder ≡ built text.now tokens.now 0 steps.now nothing_read) }
+    ensures { IfOk result
+        (λ builder. builder ≡ built text.now tokens.now 0 steps.now nothing_read) }
 {
     let mut builder = Builder::new(alloc);
     let mut read = 0;
