@@ -7,8 +7,3 @@ mod page;
 mod refutation;
 
 pub use app::rzk;
-
-#[cfg(test)]
-mod tests;
-#[cfg(test)]
-mod tope_tests;

@@ -14,6 +14,3 @@ pub use faults::CubeFault;
 pub use leaf_count::{MOST_LEAVES, leaves};
 pub use one_point::{coordinates, cube_of};
 pub use points::{Points, ToldPoint, cubes_of};
-
-#[cfg(test)]
-mod tests;

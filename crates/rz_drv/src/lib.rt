@@ -19,6 +19,3 @@ pub use faults::DrvFault;
 pub use items::Item;
 pub use parts::Part;
 pub use reading::Reader;
-
-#[cfg(test)]
-mod tests;

@@ -8,6 +8,3 @@ mod needs;
 
 pub use claims::Claimed;
 pub use extract::export;
-
-#[cfg(test)]
-mod tests;

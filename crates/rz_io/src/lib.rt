@@ -22,6 +22,3 @@ pub use reader::{Opener, ReaderFiles};
 pub use sink::{Sink, WriteFault, write_all};
 pub use standard::StdSink;
 pub use writer::WriterSink;
-
-#[cfg(test)]
-mod tests;

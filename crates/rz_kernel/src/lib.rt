@@ -10,12 +10,3 @@ mod state;
 
 pub use answer::KernelAnswer;
 pub use file::kernel;
-
-#[cfg(test)]
-mod row_tests;
-#[cfg(test)]
-mod structural_tests;
-#[cfg(test)]
-mod table_tests;
-#[cfg(test)]
-mod tests;

@@ -17,6 +17,3 @@ pub use table::{
     QUOTE, WHITE_SPACE,
 };
 pub use token::{LexFault, Tok, Token};
-
-#[cfg(test)]
-mod tests;

@@ -7,6 +7,3 @@ mod fence;
 
 pub use code::code_of;
 pub use fault::TextFault;
-
-#[cfg(test)]
-mod tests;

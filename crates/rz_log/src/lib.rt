@@ -13,6 +13,3 @@ pub use entail::{Entail, Entailed};
 pub use log::Log;
 pub use tools::Tools;
 pub use world::{Mark, World};
-
-#[cfg(test)]
-mod tests;

@@ -13,6 +13,3 @@ mod spans;
 pub use counts::Counts;
 pub use keys::HashKey;
 pub use pool::Pool;
-
-#[cfg(test)]
-mod tests;

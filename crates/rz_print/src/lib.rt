@@ -11,6 +11,3 @@ pub use laws::{one_term, parsed_forms_are_readable, words_are_read};
 pub use layout::Piece;
 pub use level::Level;
 pub use printer::print;
-
-#[cfg(test)]
-mod tests;

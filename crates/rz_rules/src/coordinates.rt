@@ -60,6 +60,3 @@ impl TryCopy for (Coord, u64) {
         Ok((self.0.copy()?, self.1))
     }
 }
-
-#[cfg(test)]
-mod tests;

@@ -26,6 +26,3 @@ pub use steps::Steps;
 pub use symbols::{Condition, LETTERS, Label, Letter, Symbol};
 pub use verdicts::{Limit, Refusal, Verdict};
 pub use words::Worded;
-
-#[cfg(test)]
-mod tests;

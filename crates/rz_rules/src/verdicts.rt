@@ -163,6 +163,3 @@ impl TryCopy for Verdict {
         self.copy()
     }
 }
-
-#[cfg(test)]
-mod tests;

@@ -20,6 +20,3 @@ pub use laws::{cubes_are_narrow, points_are_of_their_cubes, topes_are_over_their
 pub use local::{Binder, Binders, Local};
 pub use shapes::{cube, point, tope};
 pub use variables::Variables;
-
-#[cfg(test)]
-mod tests;

@@ -132,6 +132,3 @@ pub fn put_term(alloc: Global, pool: &mut Pool, body: u64, value: u64) -> Result
         None => unreachable!(),
     }
 }
-
-#[cfg(test)]
-mod tests;

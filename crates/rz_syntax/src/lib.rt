@@ -23,10 +23,3 @@ pub use grammar::{Rule, Symbol, alternatives};
 pub use laws::{one_reading, one_sequent};
 pub use levels::{Bend, TOO_DEEP, bend_of};
 pub use parser::{parse, parse_sequent};
-
-#[cfg(test)]
-mod sequent_tests;
-#[cfg(test)]
-mod show;
-#[cfg(test)]
-mod tests;

@@ -10,6 +10,3 @@ mod truths;
 
 pub use occurrences::occurring;
 pub use truths::truth;
-
-#[cfg(test)]
-mod tests;

@@ -1,0 +1,187 @@
+use super::Change;
+
+/// Contexts and topes.
+pub const STEPS: &[&str] = &[
+    // Contexts of cubes and topes, and what the tope of an entry tells.
+    "0 ctx-nil 0 formed, nil",
+    "1 ctx-cube 0 formed, /t; 0",
+    "2 ctx-cube 0 formed, /st; 1",
+    "3 ctx-cube 0 formed, xcube /st cube2; 2",
+    "4 ctx-cube 0 formed, xcube xcube /st cube2 c1; 3",
+    "5 ctx-cube 0 formed, xcube nil cube64; 0",
+    "6 ctx-tope 0 formed, xtope xcube xcube /st cube2 c1 tand tle pv:3 pv:2 tle pv:2 pv:3; 4",
+    "7 hyp 0 holds, xtope xcube xcube /st cube2 c1 tand tle pv:3 pv:2 tle pv:2 pv:3, tand tle pv:3 pv:2 tle pv:2 pv:3; 6",
+    "8 and-l 0 holds, xtope xcube xcube /st cube2 c1 tand tle pv:3 pv:2 tle pv:2 pv:3, tle pv:3 pv:2; 7",
+    "9 and-r 0 holds, xtope xcube xcube /st cube2 c1 tand tle pv:3 pv:2 tle pv:2 pv:3, tle pv:2 pv:3; 7",
+    "10 le-anti 0 holds, xtope xcube xcube /st cube2 c1 tand tle pv:3 pv:2 tle pv:2 pv:3, teq c2 pv:3 pv:2; 8 9",
+    "11 eq-sym 0 holds, xtope xcube xcube /st cube2 c1 tand tle pv:3 pv:2 tle pv:2 pv:3, teq c2 pv:2 pv:3; 10",
+    // Topes that say that points are equal.
+    "12 eq-fst 0 holds, xtope xcube xcube /st cube2 c1 tand tle pv:3 pv:2 tle pv:2 pv:3, teq c2 pl pp pv:3 pv:1 pv:3; 6",
+    "13 eq-snd 0 holds, xtope xcube xcube /st cube2 c1 tand tle pv:3 pv:2 tle pv:2 pv:3, teq c2 pr pp pv:1 pv:2 pv:2; 6",
+    "14 eq-trans 0 holds, xtope xcube xcube /st cube2 c1 tand tle pv:3 pv:2 tle pv:2 pv:3, teq c2 pl pp pv:3 pv:1 pv:2; 12 10",
+    "15 eq-eta 0 holds, xtope xcube xcube /st cube2 c1 tand tle pv:3 pv:2 tle pv:2 pv:3, teq cube2 pv:1 pp pl pv:1 pr pv:1; 6",
+    "16 eq-one 0 holds, xtope xcube xcube /st cube2 c1 tand tle pv:3 pv:2 tle pv:2 pv:3, teq c1 pv:0 pstar; 6",
+    "17 eq-pair 0 holds, xtope xcube xcube /st cube2 c1 tand tle pv:3 pv:2 tle pv:2 pv:3, teq cube2 pp pv:3 pv:2 pp pv:2 pv:3; 10 11",
+    "18 eq-left 0 holds, xtope xcube xcube /st cube2 c1 tand tle pv:3 pv:2 tle pv:2 pv:3, teq c2 pl pp pv:3 pv:2 pl pp pv:2 pv:3; 17",
+    "19 eq-right 0 holds, xtope xcube xcube /st cube2 c1 tand tle pv:3 pv:2 tle pv:2 pv:3, teq c2 pr pp pv:3 pv:2 pr pp pv:2 pv:3; 17",
+    "20 eq-refl 0 holds, xtope xcube xcube /st cube2 c1 tand tle pv:3 pv:2 tle pv:2 pv:3, teq cube2 pv:1 pv:1; 6",
+    "21 le-eq 0 holds, xtope xcube xcube /st cube2 c1 tand tle pv:3 pv:2 tle pv:2 pv:3, tle pv:2 pv:3; 11",
+    // Topes of the order, conjunctions and disjunctions.
+    "22 le-zero 0 holds, xtope xcube xcube /st cube2 c1 tand tle pv:3 pv:2 tle pv:2 pv:3, tle p0 pv:3; 6",
+    "23 le-one 0 holds, xtope xcube xcube /st cube2 c1 tand tle pv:3 pv:2 tle pv:2 pv:3, tle pv:2 p1; 6",
+    "24 le-trans 0 holds, xtope xcube xcube /st cube2 c1 tand tle pv:3 pv:2 tle pv:2 pv:3, tle p0 pv:2; 22 8",
+    "25 le-trans 0 holds, xtope xcube xcube /st cube2 c1 tand tle pv:3 pv:2 tle pv:2 pv:3, tle pv:3 p1; 8 23",
+    "26 le-total 0 holds, xtope xcube xcube /st cube2 c1 tand tle pv:3 pv:2 tle pv:2 pv:3, tor tle pl pv:1 pr pv:1 tle pr pv:1 pl pv:1; 6",
+    "27 top 0 holds, xtope xcube xcube /st cube2 c1 tand tle pv:3 pv:2 tle pv:2 pv:3, ttop; 6",
+    "28 and-i 0 holds, xtope xcube xcube /st cube2 c1 tand tle pv:3 pv:2 tle pv:2 pv:3, tand tle pv:3 pv:2 teq c2 pv:3 pv:2; 8 10",
+    "29 and-i 0 holds, xtope xcube xcube /st cube2 c1 tand tle pv:3 pv:2 tle pv:2 pv:3, tand ttop tle p0 pv:2; 27 24",
+    "30 ctx-tope 0 formed, xtope xtope xcube xcube /st cube2 c1 tand tle pv:3 pv:2 tle pv:2 pv:3 tle pl pv:1 pr pv:1; 6",
+    "31 ctx-tope 0 formed, xtope xtope xcube xcube /st cube2 c1 tand tle pv:3 pv:2 tle pv:2 pv:3 tle pr pv:1 pl pv:1; 6",
+    "32 hyp 0 holds, xtope xtope xcube xcube /st cube2 c1 tand tle pv:3 pv:2 tle pv:2 pv:3 tle pl pv:1 pr pv:1, tle pl pv:1 pr pv:1; 30",
+    "33 or-r 0 holds, xtope xtope xcube xcube /st cube2 c1 tand tle pv:3 pv:2 tle pv:2 pv:3 tle pl pv:1 pr pv:1, tor tle pr pv:1 pl pv:1 tle pl pv:1 pr pv:1; 32",
+    "34 hyp 0 holds, xtope xtope xcube xcube /st cube2 c1 tand tle pv:3 pv:2 tle pv:2 pv:3 tle pr pv:1 pl pv:1, tle pr pv:1 pl pv:1; 31",
+    "35 or-l 0 holds, xtope xtope xcube xcube /st cube2 c1 tand tle pv:3 pv:2 tle pv:2 pv:3 tle pr pv:1 pl pv:1, tor tle pr pv:1 pl pv:1 tle pl pv:1 pr pv:1; 34",
+    "36 top 0 holds, xtope xtope xcube xcube /st cube2 c1 tand tle pv:3 pv:2 tle pv:2 pv:3 tle pl pv:1 pr pv:1, ttop; 30",
+    "37 or-e 0 holds, xtope xcube xcube /st cube2 c1 tand tle pv:3 pv:2 tle pv:2 pv:3, tor tle pr pv:1 pl pv:1 tle pl pv:1 pr pv:1; 26 33 35",
+    "38 ctx-tope 0 formed, xtope /st teq c2 p0 p1; 2",
+    "39 hyp 0 holds, xtope /st teq c2 p0 p1, teq c2 p0 p1; 38",
+    "40 zero-one 0 holds, xtope /st teq c2 p0 p1, tbot; 39",
+    "41 bot 0 holds, xtope /st teq c2 p0 p1, 1<=0; 40",
+];
+
+/// What makes some of them bad.
+pub const CHANGES: &[Change] = &[
+    (0, &[(2, "1")]),
+    (1, &[(2, "1")]),
+    (2, &[(5, "0")]),
+    (
+        5,
+        &[
+            (4, "xcube nil cx cube64 cube64"),
+            (4, "xcube nil cx cube64 c1"),
+        ],
+    ),
+    (
+        6,
+        &[
+            (2, "1"),
+            (5, "3"),
+            (4, "xtope xcube xcube /st cube2 c1 teq c2 pl pv:3 pv:2"),
+            (4, "xtope xcube xcube /st cube2 c1 tle pv:3 pv:1"),
+            (4, "xtope xcube xcube /st cube2 c1 tle pv:3 pv:9"),
+            (4, "xtope xcube xcube /st cube2 c1 teq c1 pv:3 pv:2"),
+            (
+                4,
+                "xtope xcube xcube /st cube2 c1 tand tle pv:0 pv:0 tle pv:3 pv:2",
+            ),
+            (
+                4,
+                "xtope xcube xcube /st cube2 c1 tor tle pv:3 pv:2 tle pv:0 pv:0",
+            ),
+            (4, "xtope xcube xcube /st cube2 c1 teq c2 pv:3 pv:1"),
+        ],
+    ),
+    (7, &[(2, "1")]),
+    (8, &[(2, "1")]),
+    (9, &[(2, "1"), (6, "8")]),
+    (10, &[(2, "1"), (6, "7"), (7, "8")]),
+    (11, &[(2, "1"), (6, "9")]),
+    (
+        12,
+        &[
+            (2, "1"),
+            (5, "teq cube2 pl pp pv:3 pv:1 pv:3"),
+            (5, "teq c2 pl pp pv:7 pv:1 pv:7"),
+            (5, "teq c2 pl pp pv:3 pl pv:0 pv:3"),
+            (5, "teq c2 pl pp pv:3 pv:7 pv:3"),
+        ],
+    ),
+    (
+        13,
+        &[
+            (2, "1"),
+            (6, "4"),
+            (5, "teq c1 pr pp pv:1 pv:2 pv:2"),
+            (5, "teq c2 pr pp pv:4 pv:2 pv:2"),
+            (5, "teq c2 pr pp pv:1 pv:4 pv:4"),
+        ],
+    ),
+    (14, &[(2, "1"), (6, "11"), (7, "9")]),
+    (
+        15,
+        &[
+            (2, "1"),
+            (6, "4"),
+            (5, "teq cx c1 c2 pv:1 pp pl pv:1 pr pv:1"),
+            (5, "teq cube2 pv:8 pp pl pv:8 pr pv:8"),
+            (5, "teq cube2 pv:3 pp pl pv:3 pr pv:3"),
+        ],
+    ),
+    (
+        16,
+        &[
+            (2, "1"),
+            (6, "4"),
+            (5, "teq c1 pv:3 pstar"),
+            (5, "teq c1 pv:0 pv:4"),
+        ],
+    ),
+    (17, &[(2, "1"), (6, "9"), (7, "10")]),
+    (18, &[(2, "1"), (6, "16")]),
+    (19, &[(2, "1"), (6, "16")]),
+    (
+        20,
+        &[
+            (2, "1"),
+            (5, "teq cx c2 c1 pv:1 pv:1"),
+            (5, "teq cube2 pv:4 pv:4"),
+            (5, "teq cube2 pv:3 pv:3"),
+        ],
+    ),
+    (21, &[(2, "1"), (6, "10")]),
+    (22, &[(2, "1"), (5, "tle p0 pv:4"), (5, "tle p0 pv:1")]),
+    (23, &[(2, "1"), (6, "4"), (5, "tle pv:4 p1"), (5, "0<=end")]),
+    (24, &[(2, "1"), (6, "23"), (7, "7")]),
+    (
+        26,
+        &[
+            (2, "1"),
+            (5, "tor tle pv:0 pv:3 tle pv:3 pv:0"),
+            (5, "tor tle pv:3 pv:4 tle pv:4 pv:3"),
+        ],
+    ),
+    (27, &[(2, "1")]),
+    (28, &[(2, "1"), (6, "7"), (7, "9")]),
+    (32, &[(6, "31")]),
+    (
+        33,
+        &[
+            (2, "1"),
+            (6, "29"),
+            (5, "tor tle pr pv:1 pv:4 tle pl pv:1 pr pv:1"),
+            (5, "tor teq c2 pr pv:1 pv:1 tle pl pv:1 pr pv:1"),
+        ],
+    ),
+    (
+        35,
+        &[
+            (2, "1"),
+            (6, "33"),
+            (5, "tor tle pr pv:1 pl pv:1 tle pl pv:1 pv:4"),
+            (5, "tor tle pr pv:1 pl pv:1 tle pv:0 pr pv:1"),
+        ],
+    ),
+    (36, &[(6, "31")]),
+    (37, &[(2, "1"), (6, "25"), (7, "32"), (8, "34")]),
+    (40, &[(2, "1"), (6, "37")]),
+    (
+        41,
+        &[
+            (2, "1"),
+            (6, "39"),
+            (5, "tle pv:2 pv:0"),
+            (5, "teq c1 pv:1 pv:0"),
+            (5, "teq c2 pv:1 pstar"),
+        ],
+    ),
+];

@@ -1,5 +1,0 @@
-use Rattle.rz_rules.proofs.tests.steps_are_counted.Given as goal
-
--- the ledger of a count that nobody reads is the blank's
-abbrev pub ghosts-two_steps : goal.ghosts-two_steps
-ghosts-two_steps a = record { name = a.blank.name; parts = a.blank.parts }

@@ -1,0 +1,16 @@
+//! The laws are called. What the definitions say of terms is computed in `rz_reading/proofs/WorkedSteps.antt`,
+//! `WorkedRuns.antt` and `WorkedComparisons.antt`.
+
+use rz_reading::laws::{asks, depth, one_tree, pieces, place, questions, runs, steps};
+
+#[test]
+fn laws() {
+    one_tree();
+    questions();
+    place();
+    asks();
+    steps();
+    pieces();
+    runs();
+    depth();
+}

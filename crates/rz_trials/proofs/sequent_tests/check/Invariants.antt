@@ -1,6 +1,0 @@
-use Rattle.std.proofs.Common.{◌<◌, length}
-use Rattle.rz_trials.proofs.sequent_tests.check.Given as goal
-
--- the context is there
-abbrev pub invariant-loop-text : goal.invariant-loop-text
-invariant-loop-text g l = l.question.context < length l.w.pool.nodes
