@@ -2,10 +2,10 @@
 use Rattle.std.proofs.Common.{◌≡◌, ℕ, ◌≢◌, ◌⊎◌, inl, inr, List, [], ◌∷◌, ◌++◌, Option, None, Some, refl, sym, ◌∙◌, subst, arith}
 use Rattle.rz_rules.specs.Validity.{IsValid}
 use Rattle.rz_io.specs.Device.{Told}
-use Rattle.rz_question.specs.declared.decision.Decision.{Decision}
-use Rattle.rz_question.specs.declared.decision.Decision.TheVariants as decision
-use Rattle.rz_question.specs.Sequent.{IsNoSequent, SaysSequent, Sequent}
-use Rattle.rz_question.specs.Decision.{IsDecided, IsDecisionOf}
+use Rattle.rz_tope_query.specs.declared.decision.Decision.{Decision}
+use Rattle.rz_tope_query.specs.declared.decision.Decision.TheVariants as decision
+use Rattle.rz_tope_query.specs.Sequent.{IsNoSequent, SaysSequent, Sequent}
+use Rattle.rz_tope_query.specs.Decision.{IsDecided, IsDecisionOf}
 use Rattle.rz_app.specs.Command.{AsksAbout, Command, IsNoCommand, Kernel, Tope, files_of}
 use Rattle.rz_app.specs.Answer.{AnswersCommand, HasFewCoordinates, TopeWrites, Writes, WritesUsage, decision_status}
 use Rattle.rz_app.specs.Fault.{CannotRead, Composes}

@@ -10,10 +10,10 @@ use Rattle.rz_io.specs.Device.{Told, MayRead}
 use Rattle.rz_kernel.specs.Answer.{KernelSays}
 use Rattle.rz_kernel.specs.declared.answer.KernelAnswer.{KernelAnswer}
 use Rattle.rz_kernel.specs.declared.answer.KernelAnswer.TheVariants.{Yes, Malformed, BadRow}
-use Rattle.rz_question.specs.declared.decision.Decision.{Decision}
-use Rattle.rz_question.specs.declared.decision.Decision.TheVariants as decision
-use Rattle.rz_question.specs.Sequent.{IsNoSequent, Sequent}
-use Rattle.rz_question.specs.Decision.{IsDecided, count_of}
+use Rattle.rz_tope_query.specs.declared.decision.Decision.{Decision}
+use Rattle.rz_tope_query.specs.declared.decision.Decision.TheVariants as decision
+use Rattle.rz_tope_query.specs.Sequent.{IsNoSequent, Sequent}
+use Rattle.rz_tope_query.specs.Decision.{IsDecided, count_of}
 use Rattle.rz_app.specs.Command.{Command, Kernel, Tope, command, files_of}
 
 -- a line ends with a line feed

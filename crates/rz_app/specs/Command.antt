@@ -2,7 +2,7 @@
 use Rattle.std.specs.Prelude.{ℕ, ◌==◌, Bool, false, not, cond, if◌then◌else◌, Option, Some, None, List, [], ◌∷◌, codes}
 use Rattle.std.specs.List.{list_any}
 use Rattle.std.specs.Str.{bytes_eq}
-use Rattle.rz_question.specs.Sequent.{IsNoSequent, SaysSequent, Sequent}
+use Rattle.rz_tope_query.specs.Sequent.{IsNoSequent, SaysSequent, Sequent}
 use Rattle.rz_app.specs.declared.command.Request.{Request}
 use Rattle.rz_app.specs.declared.command.Request.TheVariants as request
 

@@ -3,15 +3,15 @@
 ghost use Rattle.std.specs.Prelude.{◌≡◌, ◌≢◌, ◌≤◌, ◌-◌, ◌⊎◌, ℕ, List, [], None, All, map, string_bytes};
 ghost use Rattle.rz_io.specs.Device.{Rose, Gains};
 ghost use Rattle.rz_rules.specs.Validity.{IsValid};
-ghost use Rattle.rz_question.specs.Sequent.{Sequent};
+ghost use Rattle.rz_tope_query.specs.Sequent.{Sequent};
 ghost use Rattle.rz_app.specs.Command.{AsksAbout, IsNoCommand, command, files_of};
 ghost use Rattle.rz_app.specs.Answer.{Answers, CountsSteps, HasFewCoordinates, IsStatus};
 ghost use Rattle.rz_app.specs.Fault.{CannotRead, BreaksOff, IsPresent};
 
 use crate::page::{Page, compose};
 use rz_io::{Files, Sink, WriteFault, write_all};
-use rz_question::one_sequent;
 use rz_rules::Steps;
+use rz_tope_query::one_sequent;
 use std::alloc::Global;
 use std::sync::ledger::Ledger;
 

@@ -9,8 +9,8 @@ use crate::command::{Request, parse};
 use crate::refutation::refutation;
 use rz_io::{Files, ReadFault};
 use rz_kernel::{KernelAnswer, kernel};
-use rz_question::{Decision, decide};
 use rz_rules::{Bytes, OutOfMemory};
+use rz_tope_query::{Decision, decide};
 use std::alloc::Global;
 
 /// The status where all went well.

@@ -6,7 +6,8 @@ use Rattle.rz_rules.specs.declared.kinds.Kind.TheVariants.{Product}
 use Rattle.rz_rules.specs.declared.nodes.Node.{Node}
 use Rattle.rz_rules.specs.Tree.{Tree, At, Nil, And, tree_of}
 use Rattle.rz_rules.specs.Cube.{leaves}
-use Rattle.rz_cube.specs.Point.{IsProductOf, IsNoProduct, leaves_of, IsStep}
+use Rattle.rz_cube.specs.Point.{leaves_of, IsStep}
+use Rattle.rz_pool.specs.Cubes.{IsProductOf, IsNoProduct}
 
 -- a cube has a leaf
 pub leaves_some : (t : Tree) → 1 ≤ leaves t

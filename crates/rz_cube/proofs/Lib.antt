@@ -1,6 +1,6 @@
 pub mod NodeTrees
 pub mod ListPlaces
 pub mod Cubes
-pub mod Telling
-pub mod ToldPoints
+pub mod Caching
+pub mod CachedPoints
 pub mod PathTables

@@ -11,7 +11,7 @@ use Rattle.rz_rules.specs.Cube.{left_part}
 use Rattle.rz_rules.specs.Coordinate.{paths, width, left_width}
 use Rattle.rz_cube.specs.Point.{HasPaths}
 use Rattle.rz_cube.proofs.NodeTrees.{tree_as}
-use Rattle.rz_cube.proofs.ToldPoints.{childless}
+use Rattle.rz_cube.proofs.CachedPoints.{childless}
 
 -- a cube has a path for each leaf that is the directed interval
 pub length-paths : (cube : Tree) → length (paths cube) ≡ width cube

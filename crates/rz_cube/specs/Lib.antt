@@ -1,2 +1,2 @@
 pub mod Point
-pub mod Told
+pub mod Cached

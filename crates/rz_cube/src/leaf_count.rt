@@ -6,8 +6,7 @@ ghost use Rattle.rz_rules.specs.Cube.{leaves};
 ghost use Rattle.rz_cube.specs.Point.{IsStep};
 
 use crate::faults::CubeFault;
-use crate::nodes::parts_of;
-use rz_pool::Pool;
+use rz_pool::{Pool, parts_of};
 use rz_rules::OutOfMemory;
 use std::alloc::Global;
 

@@ -5,7 +5,6 @@
 mod faults;
 mod leaf_count;
 mod lists;
-mod nodes;
 mod one_point;
 mod paths;
 mod points;
@@ -13,4 +12,4 @@ mod points;
 pub use faults::CubeFault;
 pub use leaf_count::{MOST_LEAVES, leaves};
 pub use one_point::{coordinates, cube_of};
-pub use points::{Points, ToldPoint, cubes_of};
+pub use points::{CachedPoint, Points, cubes_of};

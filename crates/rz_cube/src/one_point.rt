@@ -6,7 +6,7 @@ ghost use Rattle.rz_rules.specs.Cube.{binders_of};
 ghost use Rattle.rz_rules.specs.Tope.{cube_of, IsPointOf};
 ghost use Rattle.rz_rules.specs.Coordinate.{coordinates};
 ghost use Rattle.rz_pool.specs.Pool.{Grows};
-ghost use Rattle.rz_cube.specs.Told.{TellsOver};
+ghost use Rattle.rz_cube.specs.Cached.{CachesOver};
 
 use crate::faults::CubeFault;
 use crate::points::{Points, cubes_of};
@@ -61,14 +61,14 @@ pub fn coordinates(
     let points = points_over(alloc, pool, context, point);
     pool.release(mark);
     let points = points?;
-    let told = points.point(point);
-    match told.cube {
-        Some(_) => Ok(told.coordinates.copy()?),
+    let cached = points.point(point);
+    match cached.cube {
+        Some(_) => Ok(cached.coordinates.copy()?),
         None => Err(CubeFault::BadPoint),
     }
 }
 
-/// What is told of a point and its parts over a context.
+/// What is known of a point and its parts over a context.
 fn points_over(
     alloc: Global,
     pool: &mut Pool,
@@ -77,12 +77,12 @@ fn points_over(
 ) -> Result<Points, OutOfMemory>
     requires context { context < length pool.old.nodes }
     requires point { point < length pool.old.nodes }
-    ensures told { IfOk result (λ points. TellsOver pool.new.nodes
+    ensures cached { IfOk result (λ points. CachesOver pool.new.nodes
         (tree_of pool.old.nodes context) (tree_of pool.old.nodes point) points point) }
     ensures grows { Grows pool.old.nodes pool.new.nodes }
 {
     let entries = cubes_of(alloc, pool, context)?;
     let mut points = Points::new(alloc, pool)?;
-    points.tell_parts(alloc, pool, &entries, point)?;
+    points.cache_parts(alloc, pool, &entries, point)?;
     Ok(points)
 }

@@ -9,8 +9,7 @@ ghost use Rattle.rz_rules.specs.Coordinate.{paths};
 ghost use Rattle.rz_cube.specs.Point.{HasPaths, KidsHavePaths};
 
 use crate::lists::only;
-use crate::nodes::two_kids;
-use rz_pool::Pool;
+use rz_pool::{Pool, two_kids};
 use rz_rules::{Items, Kind, LEFT, Name, OutOfMemory, RIGHT};
 use std::alloc::Global;
 use std::collections::HashMap;

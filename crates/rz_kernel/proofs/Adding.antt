@@ -12,7 +12,7 @@ use Rattle.rz_pool.specs.Pool.{Grows}
 use Rattle.rz_pool.proofs.Nodes.{length-Grows}
 use Rattle.rz_rules.specs.Derivation.{Step}
 use Rattle.rz_rules.specs.File.{StepFits, StepItem, extended, statement_at, step_over}
-use Rattle.rz_kernel_rows.specs.Line.{IsLineOver, IsJudgmentOver, statements_of, step_of, said}
+use Rattle.rz_kernel_rows.specs.Line.{IsJudgmentOver, statements_in, step_of}
 use Rattle.rz_kernel.specs.declared.state.KernelState.{KernelState}
 use Rattle.rz_kernel.specs.State.{file_state, claims_of, with_tree, IsKernelState}
 
@@ -63,11 +63,11 @@ same_statement ns ms grows says over =
     let parts : map (tree_of ms) (parts_of says) ≡ map (tree_of ns) (parts_of says) = cc in
     λ i. record { kind = kind_of says; context = context i; parts = parts i }
 
-pub same_said : (ns ms : List Node) → Grows ns ms → (lines : List Line) → All (IsLineOver ns) lines → statements_of ms lines ≡ statements_of ns lines
+pub same_said : (ns ms : List Node) → Grows ns ms → (judgments : List Judgment) → All (IsJudgmentOver ns) judgments → statements_in ms judgments ≡ statements_in ns judgments
 same_said ns ms grows [] over = refl
-same_said ns ms grows (line ∷ lines) over =
-    let first = same_statement ns ms grows line.says (All-head (IsLineOver ns) line lines over) in
-    let rest : statements_of ms lines ≡ statements_of ns lines = same_said ns ms grows lines (All-tail (IsLineOver ns) line lines over) in
+same_said ns ms grows (says ∷ judgments) over =
+    let first = same_statement ns ms grows says (All-head (IsJudgmentOver ns) says judgments over) in
+    let rest : statements_in ms judgments ≡ statements_in ns judgments = same_said ns ms grows judgments (All-tail (IsJudgmentOver ns) says judgments over) in
     joined first rest where
       joined : {x y : Statement} {xs ys : List Statement} → x ≡ y → xs ≡ ys → x ∷ xs ≡ y ∷ ys
       joined p q = cc
@@ -79,14 +79,12 @@ over_more ns ms grows longer says over = record {
   sorts = ap (map sort_of) (same_trees ns ms grows (ids_of says) over.live) ∙ over.sorts;
 }
 
-pub lines_over : (ns ms : List Node) → Grows ns ms → length ns ≤ length ms → (lines : List Line) → All (IsLineOver ns) lines → All (IsLineOver ms) lines
-lines_over ns ms grows longer lines over k d lt = over_more ns ms grows longer (get_or lines k d).says (over k d lt)
+pub all_over : (ns ms : List Node) → Grows ns ms → length ns ≤ length ms → (judgments : List Judgment) → All (IsJudgmentOver ns) judgments → All (IsJudgmentOver ms) judgments
+all_over ns ms grows longer judgments over k d lt = over_more ns ms grows longer (get_or judgments k d) (over k d lt)
 
 -- one step more
-pub said_more : (ns : List Node) (lines : List Line) (line : Line) → statements_of ns (lines ++ line ∷ []) ≡ statements_of ns lines ++ statement (trees_in ns) line.says ∷ []
-said_more ns lines line =
-    ap (map (statement (trees_in ns))) (map-append (λ l. l.says) lines (line ∷ []))
-    ∙ map-append (statement (trees_in ns)) (said lines) (line.says ∷ [])
+pub said_more : (ns : List Node) (judgments : List Judgment) (says : Judgment) → statements_in ns (judgments ++ says ∷ []) ≡ statements_in ns judgments ++ statement (trees_in ns) says ∷ []
+said_more ns judgments says = map-append (statement (trees_in ns)) judgments (says ∷ [])
 
 pub claims_count : (statements : List Statement) (claims : List (List ℕ × ℕ)) → length (claims_of statements claims) ≡ length claims
 claims_count statements claims = length-map claims (λ (claim : List ℕ × ℕ). record { name = claim.0; says = statement_at statements claim.1 })
@@ -100,15 +98,15 @@ no_claims statements more (claim ∷ claims) e = absurd cc
 -- after a node
 pub state_with_tree : (state : KernelState) (ms : List Node) (place : ℕ) (node : Node) → Grows state.pool.nodes ms → IsKernelState state
     → tree_of ms place ≡ tree_over (trees_in state.pool.nodes) node → (places : List ℕ) → places ≡ state.places.items ++ place ∷ []
-    → record { trees = map (tree_of ms) places; statements = statements_of ms state.lines.items; claims = claims_of (statements_of ms state.lines.items) state.claims.items }
+    → record { trees = map (tree_of ms) places; statements = statements_in ms state.said.items; claims = claims_of (statements_in ms state.said.items) state.claims.items }
     ≡ with_tree state node
 state_with_tree state ms place node grows is tree places are =
     λ i. record { trees = trees i; statements = said i; claims = claims_of (said i) state.claims.items } where
       ns : List Node
       ns = state.pool.nodes
 
-      said : statements_of ms state.lines.items ≡ statements_of state.pool.nodes state.lines.items
-      said = same_said state.pool.nodes ms grows state.lines.items is.lines
+      said : statements_in ms state.said.items ≡ statements_in state.pool.nodes state.said.items
+      said = same_said state.pool.nodes ms grows state.said.items is.said
 
       trees : map (tree_of ms) places ≡ map (tree_of state.pool.nodes) state.places.items ++ tree_over (trees_in state.pool.nodes) node ∷ []
       trees = ap (map (tree_of ms)) are ∙ map-append (tree_of ms) state.places.items (place ∷ [])
@@ -116,12 +114,12 @@ state_with_tree state ms place node grows is tree places are =
           ∙ ap (λ (t : Tree). map (tree_of state.pool.nodes) state.places.items ++ t ∷ []) tree
 
 -- after a step
-pub state_more : (state : KernelState) (ms : List Node) → Grows state.pool.nodes ms → IsKernelState state → (placed line : Line) → IsLineOver state.pool.nodes placed
+pub state_more : (state : KernelState) (ms : List Node) → Grows state.pool.nodes ms → IsKernelState state → (placed line : Line) → IsJudgmentOver state.pool.nodes placed.says
     → step_of state.pool.nodes placed ≡ step_over (file_state state).trees line → StepFits (file_state state) line
-    → (lines : List Line) → lines ≡ state.lines.items ++ placed ∷ []
-    → record { trees = map (tree_of ms) state.places.items; statements = statements_of ms lines; claims = claims_of (statements_of ms lines) state.claims.items }
+    → (judgments : List Judgment) → judgments ≡ state.said.items ++ placed.says ∷ []
+    → record { trees = map (tree_of ms) state.places.items; statements = statements_in ms judgments; claims = claims_of (statements_in ms judgments) state.claims.items }
     ≡ extended (file_state state) (StepItem line)
-state_more state ms grows is placed line over step fits lines are =
+state_more state ms grows is placed line over step fits judgments are =
     λ i. record { trees = trees i; statements = said i; claims = claims i } where
       trees : map (tree_of ms) state.places.items ≡ map (tree_of state.pool.nodes) state.places.items
       trees = same_trees state.pool.nodes ms grows state.places.items is.places
@@ -129,19 +127,19 @@ state_more state ms grows is placed line over step fits lines are =
       says : statement (trees_in ms) placed.says ≡ statement (file_state state).trees line.says
       says = same_statement state.pool.nodes ms grows placed.says over ∙ ap (λ (s : Step). s.says) step
 
-      said : statements_of ms lines ≡ (file_state state).statements ++ statement (file_state state).trees line.says ∷ []
-      said = ap (statements_of ms) are ∙ said_more ms state.lines.items placed
-          ∙ (λ i. same_said state.pool.nodes ms grows state.lines.items is.lines i ++ says i ∷ [])
+      said : statements_in ms judgments ≡ (file_state state).statements ++ statement (file_state state).trees line.says ∷ []
+      said = ap (statements_in ms) are ∙ said_more ms state.said.items placed.says
+          ∙ (λ i. same_said state.pool.nodes ms grows state.said.items is.said i ++ says i ∷ [])
 
-      claims : claims_of (statements_of ms lines) state.claims.items ≡ claims_of (file_state state).statements state.claims.items
-      claims = no_claims (file_state state).statements (statements_of ms lines) state.claims.items fits.claims
+      claims : claims_of (statements_in ms judgments) state.claims.items ≡ claims_of (file_state state).statements state.claims.items
+      claims = no_claims (file_state state).statements (statements_in ms judgments) state.claims.items fits.claims
 
-pub over_nodes : (state : KernelState) (ms : List Node) → Grows state.pool.nodes ms → (placed : Line) → IsLineOver state.pool.nodes placed → IsKernelState state
-    → (lines : List Line) → lines ≡ state.lines.items ++ placed ∷ []
-    → (All (λ place. place < length ms) state.places.items) × All (IsLineOver ms) lines
-over_nodes state ms grows placed over is lines are =
+pub over_nodes : (state : KernelState) (ms : List Node) → Grows state.pool.nodes ms → (placed : Line) → IsJudgmentOver state.pool.nodes placed.says → IsKernelState state
+    → (judgments : List Judgment) → judgments ≡ state.said.items ++ placed.says ∷ []
+    → (All (λ place. place < length ms) state.places.items) × All (IsJudgmentOver ms) judgments
+over_nodes state ms grows placed over is judgments are =
     let longer = length-Grows state.pool.nodes ms grows in (
       λ k d lt. omega (arith, longer, is.places k d lt),
-      lines_over state.pool.nodes ms grows longer lines
-          (subst (λ (ls : List Line). All (IsLineOver state.pool.nodes) ls) (sym are) (All-push (IsLineOver state.pool.nodes) state.lines.items placed is.lines over)),
+      all_over state.pool.nodes ms grows longer judgments
+          (subst (λ (js : List Judgment). All (IsJudgmentOver state.pool.nodes) js) (sym are) (All-push (IsJudgmentOver state.pool.nodes) state.said.items placed.says is.said over)),
     )

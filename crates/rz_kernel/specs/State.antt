@@ -4,8 +4,8 @@ use Rattle.rz_rules.specs.declared.nodes.Node.{Node}
 use Rattle.rz_rules.specs.Tree.{tree_of, tree_over, trees_in}
 use Rattle.rz_rules.specs.Judgment.{Statement}
 use Rattle.rz_rules.specs.File.{Claim, FileState, statement_at}
-use Rattle.rz_kernel_rows.specs.Line.{IsLineOver, statements_of}
-use Rattle.rz_scope.specs.Knowledge.{IsKnown}
+use Rattle.rz_kernel_rows.specs.Line.{IsJudgmentOver, statements_in}
+use Rattle.rz_context.specs.Knowledge.{IsKnown}
 use Rattle.rz_kernel.specs.declared.state.KernelState.{KernelState}
 
 -- names and numbers of steps as claims
@@ -17,7 +17,7 @@ claims_of statements claims =
 abbrev pub file_state : KernelState → FileState
 file_state state =
     let nodes = state.pool.nodes in
-    let statements = statements_of nodes state.lines.items in
+    let statements = statements_in nodes state.said.items in
     record {
       trees = map (tree_of nodes) state.places.items;
       statements = statements;
@@ -33,5 +33,5 @@ with_tree state node =
 -- what the kernel has names nodes that are there, and what it knows of them is so
 pub record IsKernelState (state : KernelState) : Type 0 where
   pub places : All (λ place. place < length state.pool.nodes) state.places.items
-  pub lines : All (IsLineOver state.pool.nodes) state.lines.items
+  pub said : All (IsJudgmentOver state.pool.nodes) state.said.items
   pub known : IsKnown state.pool.nodes state.known

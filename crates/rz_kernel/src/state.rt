@@ -8,11 +8,11 @@ ghost use Rattle.rz_drv.specs.Items.{item_of};
 ghost use Rattle.rz_kernel.specs.State.{file_state, with_tree, IsKernelState};
 
 use crate::places::{judgment_at, kids_at};
+use rz_context::Knowledge;
 use rz_drv::Item;
 use rz_kernel_rows::follows_with;
 use rz_pool::{HashKey, Pool};
-use rz_rules::{Line, Name, Node, OutOfMemory};
-use rz_scope::Knowledge;
+use rz_rules::{Judgment, Line, Name, Node, OutOfMemory};
 use std::alloc::Global;
 
 /// What the lines so far give.
@@ -22,8 +22,8 @@ pub struct KernelState {
     pub pool: Pool,
     /// For each node of the file in order, its id in the pool.
     pub places: Vec<u64>,
-    /// The steps of the file in order, over ids of the pool.
-    pub lines: Vec<Line>,
+    /// What the steps of the file say, in order, over ids of the pool.
+    pub said: Vec<Judgment>,
     /// What is known of the contexts of the pool.
     pub known: Knowledge,
     /// The claims of the file in order: a name, and the number of the step that it names.
@@ -41,7 +41,7 @@ impl KernelState {
             known: Knowledge::new(alloc, &pool),
             pool,
             places: Vec::new(alloc),
-            lines: Vec::new(alloc),
+            said: Vec::new(alloc),
             claims: Vec::new(alloc),
         }
     }
@@ -110,10 +110,10 @@ impl KernelState {
             says,
             from: line.from,
         };
-        if !follows_with(alloc, &mut self.pool, &mut self.known, &self.lines, &placed)? {
+        if !follows_with(alloc, &mut self.pool, &mut self.known, &self.said, &placed)? {
             return Ok(false);
         }
-        self.lines.push(placed)?;
+        self.said.push(says)?;
         Ok(true)
     }
 }

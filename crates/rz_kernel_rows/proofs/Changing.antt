@@ -6,13 +6,14 @@ use Rattle.rz_rules.specs.declared.rows.Scheme.TheVariants as scheme
 use Rattle.rz_rules.specs.declared.judgments.Judgment.{Judgment}
 use Rattle.rz_rules.specs.Tree.{Tree, tree_of, trees_in}
 use Rattle.rz_rules.specs.Judgment.{Statement, statement}
-use Rattle.rz_rules.specs.Structural.{equal_points, has, holds}
+use Rattle.rz_rules.specs.Structural.{has, holds}
+use Rattle.rz_rules.specs.Tope.{equal_points}
 use Rattle.rz_rules.specs.Substitution.{Changes, IndicesBelow}
 use Rattle.rz_rules.specs.Context.{OfCube, OfType}
 use Rattle.rz_subst.specs.Walk.{IsAnswerOf}
-use Rattle.rz_scope.specs.declared.entries.Entry.{Entry}
-use Rattle.rz_scope.specs.declared.entries.Entry.TheVariants as entry
-use Rattle.rz_scope.specs.declared.entries.Last.{Last}
+use Rattle.rz_pool.specs.declared.entries.Entry.{Entry}
+use Rattle.rz_pool.specs.declared.entries.Entry.TheVariants as entry
+use Rattle.rz_pool.specs.declared.entries.Last.{Last}
 use Rattle.rz_kernel_rows.specs.Context.{entry_over}
 use Rattle.rz_kernel_rows.specs.Move.{AllowsNoPoint, AllowsNoTerm, IsNotRemoved, Removes}
 

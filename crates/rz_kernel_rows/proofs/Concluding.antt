@@ -14,8 +14,8 @@ use Rattle.rz_rules.specs.Structural.{ConcludesBy, IsContextOf, formed}
 use Rattle.rz_rules.specs.Table.{Rule}
 use Rattle.rz_rules.specs.Derivation.{AppliesBy}
 use Rattle.rz_pool.specs.Pool.{Grows, IsPool}
-use Rattle.rz_spell.proofs.Putting.{over-Grows, statements-Grows}
-use Rattle.rz_spell.specs.Spelling.{IsLive}
+use Rattle.rz_rule_text.proofs.Putting.{over-Grows, statements-Grows}
+use Rattle.rz_rule_text.specs.Spelling.{IsLive}
 use Rattle.rz_kernel_rows.specs.Line.{IsJudgmentOver}
 use Rattle.rz_kernel_rows.specs.Move.{IsConclusion, IsConclusionFor}
 use Rattle.rz_kernel_rows.proofs.Spelled.{same_judgment}

@@ -6,7 +6,7 @@ use Rattle.rz_rules.specs.declared.kinds.Kind.TheVariants.{Product}
 use Rattle.rz_rules.specs.declared.nodes.Node.{Node}
 use Rattle.rz_rules.specs.Tree.{Tree, At, Nil, And, tree_of}
 use Rattle.rz_rules.specs.Cube.{leaves}
-use Rattle.rz_scope.specs.Cubes.{IsProductOf, IsNoProduct}
+use Rattle.rz_pool.specs.Cubes.{IsProductOf, IsNoProduct}
 use Rattle.rz_kernel_rows.specs.Leaves.{leaves_of, IsStep}
 
 -- a cube has a leaf

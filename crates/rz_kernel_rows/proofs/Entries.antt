@@ -9,9 +9,9 @@ use Rattle.rz_rules.specs.Substitution.{Depth, none, total}
 use Rattle.rz_rules.specs.Context as meaning
 use Rattle.rz_rules.specs.Context.{HasNoEntry, OfCube, OfTope, OfType, with_entry, with_entries, bound_by, depth_of}
 use Rattle.rz_rules.proofs.Contexts.{among, at_most, depth_of-append, with_entries-append}
-use Rattle.rz_scope.specs.declared.entries.Entry.{Entry}
-use Rattle.rz_scope.specs.declared.entries.Entry.TheVariants as entry
-use Rattle.rz_scope.specs.declared.entries.Last.{Last}
+use Rattle.rz_pool.specs.declared.entries.Entry.{Entry}
+use Rattle.rz_pool.specs.declared.entries.Entry.TheVariants as entry
+use Rattle.rz_pool.specs.declared.entries.Last.{Last}
 use Rattle.rz_kernel_rows.specs.Context.{IsLast, NoCut, NoSplit, NoTermSplit, bound_by as bound_here, entries_over, entry_over}
 
 module _ (nodes : List Node) (context outer : ℕ) (inner : List Entry) (is : tree_of nodes context ≡ with_entries (tree_of nodes outer) (entries_over nodes inner)) where

@@ -14,9 +14,9 @@ use Rattle.rz_pool.specs.Counts.{depth_of as depth_of_counts}
 use Rattle.rz_pool.specs.declared.counts.Counts.{Counts}
 use Rattle.rz_pool.specs.Pool.{Grows, IsPool}
 use Rattle.rz_pool.proofs.Nodes.{Grows-trans, KeepsTrees-Grows, length-Grows}
-use Rattle.rz_spell.proofs.Stacks.{IndicesBelow-IsTree}
-use Rattle.rz_scope.specs.declared.entries.Entry.{Entry}
-use Rattle.rz_scope.specs.declared.entries.Entry.TheVariants as entry
+use Rattle.rz_rule_text.proofs.Stacks.{IndicesBelow-IsTree}
+use Rattle.rz_pool.specs.declared.entries.Entry.{Entry}
+use Rattle.rz_pool.specs.declared.entries.Entry.TheVariants as entry
 use Rattle.rz_kernel_rows.specs.declared.moves.Change.{Change}
 use Rattle.rz_kernel_rows.specs.declared.moves.Change.TheVariants.{Nothing, Opens, Puts}
 use Rattle.rz_kernel_rows.specs.Context.{IsAt, IsEntryAt, bound_by, entries_over, entry_over, sort_in, tree_in}

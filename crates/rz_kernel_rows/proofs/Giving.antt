@@ -20,9 +20,9 @@ use Rattle.rz_pool.proofs.Nodes.{KeepsTrees-Grows}
 use Rattle.rz_pool.proofs.WellFormed.{tree_of-is}
 use Rattle.rz_subst.specs.Sorts.{KeepsSorts-raising, sort_changed}
 use Rattle.rz_subst.specs.Walk.{IsAnswerOf}
-use Rattle.rz_spell.proofs.Stacks.{IndicesBelow-IsTree}
-use Rattle.rz_scope.specs.declared.entries.Entry.{Entry as PoolEntry}
-use Rattle.rz_scope.specs.declared.entries.Entry.TheVariants as entry
+use Rattle.rz_rule_text.proofs.Stacks.{IndicesBelow-IsTree}
+use Rattle.rz_pool.specs.declared.entries.Entry.{Entry as PoolEntry}
+use Rattle.rz_pool.specs.declared.entries.Entry.TheVariants as entry
 use Rattle.rz_kernel_rows.specs.Context.{IsAt, NoSplit, NoTermSplit, entry_over}
 use Rattle.rz_kernel_rows.specs.Move.{IsTypeFor}
 use Rattle.rz_kernel_rows.proofs.Nodes.{kids_as, tree_as}

@@ -1,10 +1,9 @@
 -- Instances of a row's text, by what was found.
-use Rattle.std.proofs.Common.{◌≡◌, ℕ, ◌<◌, ◌≤◌, ◌||◌, Bool, true, false, List, [], ◌∷◌, Some, Option, length, get_or, take, drop, map, All, refl, sym, ap, subst, ◌∙◌, arith}
+use Rattle.std.proofs.Common.{◌≡◌, ℕ, ◌≤◌, ◌||◌, Bool, true, false, List, [], ◌∷◌, Some, Option, length, get_or, take, drop, All, refl, sym, ap, subst, ◌∙◌, arith}
 use Rattle.std.specs.List.{list_all, list_any}
 use Rattle.std.specs.Cmp.{first_so, second_so}
 use Rattle.std.proofs.lemmas.List.Elements.{All-cons, All-head, All-nil, All-tail, All-weaker}
 use Rattle.std.proofs.lemmas.Map.Views.{Contains-from_any}
-use Rattle.rz_rules.specs.declared.judgments.Judgment.{Judgment}
 use Rattle.rz_rules.specs.declared.nodes.Node.{Node}
 use Rattle.rz_rules.specs.declared.rows.Row.{Row}
 use Rattle.rz_rules.specs.declared.rows.Row.TheVariants as row
@@ -15,22 +14,19 @@ use Rattle.rz_rules.specs.declared.symbols.Condition.{Condition}
 use Rattle.rz_rules.specs.declared.symbols.Condition.TheVariants.{FewLeaves, TopeOver, PointOf}
 use Rattle.rz_rules.specs.declared.symbols.Symbol.{Symbol}
 use Rattle.rz_rules.specs.declared.symbols.Symbol.TheVariants as symbol
-use Rattle.rz_rules.specs.declared.kinds.Sort.{Sort}
 use Rattle.rz_rules.specs.Cube.{leaves, binders_of}
 use Rattle.rz_rules.specs.Tope.{IsPointOf, IsTopeOver}
-use Rattle.rz_rules.specs.Tree.{Tree, At, IsTree, AreTrees, HaveForms, sort_of, tree_of, trees_in, trees_of}
-use Rattle.rz_rules.specs.Judgment.{IsStatement, ids_of, kind_of, sorts_of, statement}
+use Rattle.rz_rules.specs.Tree.{Tree, At, trees_of}
 use Rattle.rz_rules.specs.declared.kinds.Kind.{Kind}
 use Rattle.rz_rules.specs.Form.{form}
-use Rattle.rz_rules.specs.Row.{Assignment, HasLetter, Spelling, letters_in, name_of, number_of, spelled, with_symbol}
+use Rattle.rz_rules.specs.Row.{Assignment, Spelling, letters_in, name_of, number_of, spelled, with_symbol}
 use Rattle.rz_rules.specs.Derivation.{IsMet}
 use Rattle.rz_rules.specs.Table.{rule_of}
 use Rattle.rz_rules.specs.Text.{same_letter}
-use Rattle.rz_pool.proofs.WellFormed.{tree_of-is}
-use Rattle.rz_spell.specs.Letters.{IsFound, assignment_of, has_name, is_row_name, name_in, tree_for}
-use Rattle.rz_kernel_rows.specs.Finding.{StandsFor, is_determined}
-use Rattle.rz_kernel_rows.specs.Line.{IsJudgmentOver, letters_of, names_letters}
-use Rattle.rz_kernel_rows.proofs.Found.{one_letter}
+use Rattle.rz_rule_text.specs.Letters.{IsFound, assignment_of, has_name, is_row_name, name_in, tree_for}
+use Rattle.rz_rule_text.specs.Finding.{StandsFor, is_determined}
+use Rattle.rz_kernel_rows.specs.Line.{letters_of, names_letters}
+use Rattle.rz_rule_text.proofs.Found.{one_letter}
 
 -- ---- the table
 

@@ -17,13 +17,13 @@ use Rattle.rz_pool.specs.Pool.{Grows}
 use Rattle.rz_pool.proofs.Nodes.{length-Grows}
 use Rattle.rz_subst.specs.Sorts.{KeepsSorts-putting, KeepsSorts-raising, sort_changed}
 use Rattle.rz_subst.specs.Walk.{KeepsSorts}
-use Rattle.rz_spell.proofs.Stacks.{AllIndicesBelow-AreTrees}
+use Rattle.rz_rule_text.proofs.Stacks.{AllIndicesBelow-AreTrees}
 use Rattle.rz_kernel_rows.specs.declared.moves.Change.{Change}
 use Rattle.rz_kernel_rows.specs.declared.moves.Change.TheVariants.{Nothing, Opens, Puts}
 use Rattle.rz_kernel_rows.specs.Context.{IsAt}
 use Rattle.rz_kernel_rows.specs.Line.{IsJudgmentOver}
 use Rattle.rz_kernel_rows.specs.Move.{IsConclusion, IsJudgmentFor, IsThere, changes_of}
-use Rattle.rz_scope.proofs.Growing.{same_trees}
+use Rattle.rz_context.proofs.Growing.{same_trees}
 
 -- the parts of a judgment are there
 pub IsJudgmentOver-parts : (nodes : List Node) (says : Judgment) → IsJudgmentOver nodes says → All (λ id. id < length nodes) (parts_of says)

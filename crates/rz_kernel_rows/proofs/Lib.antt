@@ -1,8 +1,3 @@
-pub mod Walks
-pub mod Tests
-pub mod Steps
-pub mod KnownSteps
-pub mod Found
 pub mod Instances
 pub mod Following
 pub mod Spelled

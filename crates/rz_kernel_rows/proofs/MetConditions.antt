@@ -17,7 +17,7 @@ use Rattle.rz_kernel_rows.specs.Line.{letters_of}
 use Rattle.rz_kernel_rows.proofs.Instances.{SameLetter, condition_same}
 use Rattle.rz_rules.specs.Judgment.{context_of, kind_of, parts_of}
 use Rattle.rz_rules.specs.Derivation.{IsMet, IsScoped}
-use Rattle.rz_spell.specs.Letters.{IsFound, assignment_of, letter_at, tree_for}
+use Rattle.rz_rule_text.specs.Letters.{IsFound, assignment_of, letter_at, tree_for}
 
 module _ (nodes : List Node) (letters : List (Option ℕ)) (name : Option ℕ) {E : Type 0} (r : Result Bool E) where
   pub tope_over : (c t : Letter) (context tope : ℕ) (condition : Condition) → condition ≡ TopeOver c t → letter_at letters c.number ≡ Some context → letter_at letters t.number ≡ Some tope

@@ -8,7 +8,8 @@ use Rattle.rz_rules.specs.Tree.{Tree}
 use Rattle.rz_rules.specs.Substitution.{Changes, none, putting, raising}
 use Rattle.rz_rules.specs.Context.{Entry, HasNoEntry, OfCube, OfTope, OfType, bound_by, changed_entries, with_entries, with_entry}
 use Rattle.rz_rules.specs.Judgment.{Statement}
-use Rattle.rz_rules.specs.Structural.{ConcludesBy, IsMoved, IsWeakening, Move, changed_statement, equal_points, formed, has, holds}
+use Rattle.rz_rules.specs.Structural.{ConcludesBy, IsMoved, IsWeakening, Move, changed_statement, formed, has, holds}
+use Rattle.rz_rules.specs.Tope.{equal_points}
 use Rattle.rz_rules.proofs.Contexts.{length-changed_entries, with_entries-same, with_entry-same}
 use Rattle.rz_kernel_rows.specs.Context.{NoCut, NoSplit}
 use Rattle.rz_kernel_rows.specs.Move.{IsRemoval, Removes}

@@ -3,17 +3,17 @@ use Rattle.std.proofs.Common.{◌≡◌, ℕ, ◌≤◌, List, refl, ap, ◌∙�
 use Rattle.rz_rules.specs.declared.nodes.Node.{Node}
 use Rattle.rz_rules.specs.Tree.{Tree, tree_of}
 use Rattle.rz_rules.specs.Context.{OfType, with_entries, with_entry}
-use Rattle.rz_scope.specs.declared.entries.Entry.{Entry}
-use Rattle.rz_scope.specs.declared.entries.Entry.TheVariants as entry
-use Rattle.rz_scope.specs.declared.places.Found.{Found}
-use Rattle.rz_scope.specs.declared.places.Measure.{Measure}
-use Rattle.rz_scope.specs.declared.places.Measure.TheVariants as measure
-use Rattle.rz_scope.specs.Place.{IsFound, measured, weight}
-use Rattle.rz_scope.proofs.Measures.{counted-length, counted-terms, measured-entries, measured-entry}
+use Rattle.rz_pool.specs.declared.entries.Entry.{Entry}
+use Rattle.rz_pool.specs.declared.entries.Entry.TheVariants as entry
+use Rattle.rz_context.specs.declared.summaries.FoundEntry.{FoundEntry}
+use Rattle.rz_context.specs.declared.summaries.Measure.{Measure}
+use Rattle.rz_context.specs.declared.summaries.Measure.TheVariants as measure
+use Rattle.rz_context.specs.Summary.{IsFound, measured, weight}
+use Rattle.rz_context.proofs.Measures.{counted-length, counted-terms, measured-entries, measured-entry}
 use Rattle.rz_kernel_rows.specs.Context.{NoSplit, NoTermSplit, entry_over}
 
 -- the context is cut at the entry
-pub found_cut : (nodes : List Node) (context number : ℕ) (by : Measure) (found : Found) (is : IsFound nodes context by number found)
+pub found_cut : (nodes : List Node) (context number : ℕ) (by : Measure) (found : FoundEntry) (is : IsFound nodes context by number found)
     → tree_of nodes context ≡ with_entries (with_entry (tree_of nodes found.last.before) (entry_over nodes found.last.entry)) is.inner
 found_cut nodes context number by found is = is.tree ∙ ap (λ (t : Tree). with_entries t is.inner) is.last.tree
 

@@ -14,14 +14,14 @@ use Rattle.rz_rules.specs.Row.{Assignment, IsInstance, Spelling, letters_in, spe
 use Rattle.rz_rules.specs.Derivation.{IsMet}
 use Rattle.rz_rules.specs.Table.{rule_of}
 use Rattle.rz_pool.specs.Pool.{Grows, IsPool, ShareTrees}
-use Rattle.rz_spell.specs.Letters.{HasName, IsFound, assignment_of, has_name}
-use Rattle.rz_spell.specs.Spelling.{AreLetters, IsLive, IsNamed, IsTooHigh}
-use Rattle.rz_spell.proofs.Putting.{statements-Grows}
-use Rattle.rz_spell.proofs.Stacks.{length-Grows}
-use Rattle.rz_kernel_rows.specs.Finding.{FindsAll, IsFinding, is_determined}
+use Rattle.rz_rule_text.specs.Letters.{HasName, IsFound, assignment_of, has_name}
+use Rattle.rz_rule_text.specs.Spelling.{AreLetters, IsLive, IsNamed, IsTooHigh}
+use Rattle.rz_rule_text.proofs.Putting.{statements-Grows}
+use Rattle.rz_rule_text.proofs.Stacks.{length-Grows}
+use Rattle.rz_rule_text.specs.Finding.{FindsAll, IsFinding, is_determined}
 use Rattle.rz_kernel_rows.specs.Line.{IsInstanceOf, IsJudgmentOver, letters_of}
 use Rattle.rz_kernel_rows.proofs.Instances.{SameLetter, conditions_same, found_letters, of_row, rows_are_determined, same_spelling}
-use Rattle.rz_spell.proofs.Over.{AreStatements-over, letters_have_sorts}
+use Rattle.rz_rule_text.proofs.Over.{AreStatements-over, letters_have_sorts}
 
 -- ---- judgments by their ids
 

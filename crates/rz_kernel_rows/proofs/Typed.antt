@@ -22,13 +22,13 @@ use Rattle.rz_kernel_rows.specs.declared.formers.Typing.{Typing}
 use Rattle.rz_kernel_rows.proofs.Judged.{has_at}
 use Rattle.rz_kernel_rows.proofs.Lists.{All-among, All-front}
 use Rattle.std.proofs.lemmas.List.{map-append}
-use Rattle.rz_spell.specs.Letters.{IsFound, HasName, assignment_of, has_name}
-use Rattle.rz_spell.specs.Spelling.{AreLetters, IsTooHigh, IsNamed}
-use Rattle.rz_kernel_rows.specs.Finding.{FindsSubject, HasNoSubject, IsFinding, SpeaksOf, last_words, subject_determines}
+use Rattle.rz_rule_text.specs.Letters.{IsFound, HasName, assignment_of, has_name}
+use Rattle.rz_rule_text.specs.Spelling.{AreLetters, IsTooHigh, IsNamed}
+use Rattle.rz_rule_text.specs.Finding.{FindsSubject, HasNoSubject, IsFinding, SpeaksOf, last_words, subject_determines}
 use Rattle.rz_kernel_rows.specs.Line.{IsJudgmentOver}
 use Rattle.rz_kernel_rows.specs.Typing.{AreTyping, HasNoTyping, IsTypingOf}
 use Rattle.rz_kernel_rows.proofs.Instances.{same_spelling}
-use Rattle.rz_spell.proofs.Over.{AreStatements-over, letters_have_sorts}
+use Rattle.rz_rule_text.proofs.Over.{AreStatements-over, letters_have_sorts}
 
 -- ---- the table
 

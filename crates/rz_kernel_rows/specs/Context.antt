@@ -6,8 +6,8 @@ use Rattle.rz_rules.specs.declared.nodes.Node.{Node}
 use Rattle.rz_rules.specs.Tree.{Tree, tree_of}
 use Rattle.rz_rules.specs.Context as meaning
 use Rattle.rz_rules.specs.Context.{OfCube, OfTope, OfType, with_entry, with_entries, depth_of}
-use Rattle.rz_scope.specs.declared.entries.Entry.{Entry}
-pub use Rattle.rz_scope.specs.Entry.{IsAt, IsEntryAt, IsLast, bound_by, entry_over, sort_in, tree_in}
+use Rattle.rz_pool.specs.declared.entries.Entry.{Entry}
+pub use Rattle.rz_pool.specs.Entry.{IsAt, IsEntryAt, IsLast, bound_by, entry_over, sort_in, tree_in}
 use Rattle.rz_kernel_rows.specs.declared.contexts.Cut.{Cut}
 use Rattle.rz_kernel_rows.specs.declared.contexts.Split.{Split}
 

@@ -1,5 +1,4 @@
 pub mod Leaves
-pub mod Finding
 pub mod Line
 pub mod Context
 pub mod Move

@@ -14,7 +14,7 @@ use Rattle.rz_rules.specs.Table.{Rule}
 use Rattle.rz_rules.specs.Text.{same_letter}
 use Rattle.rz_rules.specs.Derivation.{IsMet, Step}
 use Rattle.rz_rules.specs.File.{step_over}
-pub use Rattle.rz_spell.specs.Spelling.{IsJudgmentOver}
+pub use Rattle.rz_rule_text.specs.Spelling.{IsJudgmentOver}
 
 -- the letters of a condition
 abbrev pub letters_of : Condition → List Letter
@@ -29,9 +29,12 @@ IsLineOver nodes line = IsJudgmentOver nodes line.says
 abbrev pub said : List Line → List Judgment
 said lines = map (λ line. line.says) lines
 
--- lines read as trees
+-- judgments, and what lines say, read as trees
+abbrev pub statements_in : List Node → List Judgment → List Statement
+statements_in nodes judgments = map (statement (trees_in nodes)) judgments
+
 abbrev pub statements_of : List Node → List Line → List Statement
-statements_of nodes lines = map (statement (trees_in nodes)) (said lines)
+statements_of nodes lines = statements_in nodes (said lines)
 
 abbrev pub step_of : List Node → Line → Step
 step_of nodes line = step_over (trees_in nodes) line

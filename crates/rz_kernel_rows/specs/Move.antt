@@ -12,17 +12,18 @@ use Rattle.rz_rules.specs.Form.{sort_in}
 use Rattle.rz_rules.specs.Context as meaning
 use Rattle.rz_rules.specs.Context.{OfCube, OfTope, OfType, with_entry, with_entries, changed_entries, depth_of}
 use Rattle.rz_rules.specs.Judgment.{IsStatement, Statement, statement}
-use Rattle.rz_rules.specs.Structural.{equal_points, has, holds}
+use Rattle.rz_rules.specs.Structural.{has, holds}
+use Rattle.rz_rules.specs.Tope.{equal_points}
 use Rattle.rz_pool.specs.Counts.{depth_of as depth_of_counts}
-use Rattle.rz_scope.specs.declared.entries.Entry.{Entry}
-use Rattle.rz_scope.specs.declared.entries.Entry.TheVariants as entry
-use Rattle.rz_scope.specs.declared.entries.Last.{Last}
+use Rattle.rz_pool.specs.declared.entries.Entry.{Entry}
+use Rattle.rz_pool.specs.declared.entries.Entry.TheVariants as entry
+use Rattle.rz_pool.specs.declared.entries.Last.{Last}
 use Rattle.rz_kernel_rows.specs.declared.moves.Change.{Change}
 use Rattle.rz_kernel_rows.specs.declared.moves.Change.TheVariants.{Nothing, Opens, Puts}
 use Rattle.rz_kernel_rows.specs.declared.moves.Extended.{Extended}
 use Rattle.rz_kernel_rows.specs.Context.{IsAt, IsEntryAt, entries_over, entry_over}
 use Rattle.rz_kernel_rows.specs.Line.{IsJudgmentOver}
-pub use Rattle.rz_scope.specs.Entry.{with_id}
+pub use Rattle.rz_pool.specs.Entry.{with_id}
 
 -- what becomes of the variables
 abbrev pub changes_of : List Node → Change → Changes

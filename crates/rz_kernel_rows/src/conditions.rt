@@ -5,14 +5,14 @@ ghost use Rattle.rz_rules.specs.Tree.{tree_of};
 ghost use Rattle.rz_rules.specs.Judgment.{context_of, ids_of, kind_of, parts_of};
 ghost use Rattle.rz_rules.specs.Derivation.{IsMet, IsScoped};
 ghost use Rattle.rz_pool.specs.Pool.{Grows};
-ghost use Rattle.rz_scope.specs.Knowledge.{IsKnown};
-ghost use Rattle.rz_spell.specs.Letters.{IsFound, assignment_of, letter_at};
+ghost use Rattle.rz_context.specs.Knowledge.{IsKnown};
+ghost use Rattle.rz_rule_text.specs.Letters.{IsFound, assignment_of, letter_at};
 ghost use Rattle.rz_kernel_rows.specs.Line.{letters_of};
 
 use crate::leaves::is_narrow;
+use rz_context::Knowledge;
 use rz_pool::Pool;
 use rz_rules::{Condition, Judgment, Letter, OutOfMemory};
-use rz_scope::Knowledge;
 use std::alloc::Global;
 
 /// Whether the letters, which stand for these trees, meet all conditions.

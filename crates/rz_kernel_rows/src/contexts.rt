@@ -4,9 +4,8 @@ ghost use Rattle.std.specs.Prelude.{◌<◌, length, IfOk, IfSome, IfNone};
 ghost use Rattle.rz_rules.specs.Tree.{tree_of};
 ghost use Rattle.rz_kernel_rows.specs.Context.{IsCut, IsSplit, NoCut, NoSplit};
 
-use rz_pool::Pool;
+use rz_pool::{Entry, Last, Pool, last_entry};
 use rz_rules::OutOfMemory;
-use rz_scope::{Entry, Last, last_entry};
 use std::alloc::Global;
 
 /// A context that is cut.

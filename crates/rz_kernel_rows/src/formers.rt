@@ -8,18 +8,17 @@ ghost use Rattle.rz_rules.specs.Tree.{kind_at, tree_of, trees_in};
 ghost use Rattle.rz_rules.specs.declared.judgments.Judgment.TheVariants.{Has};
 ghost use Rattle.rz_rules.specs.Table.{typing_row as row_of_former};
 ghost use Rattle.rz_pool.specs.Pool.{Grows, IsPool};
-ghost use Rattle.rz_scope.specs.Knowledge.{IsKnown};
+ghost use Rattle.rz_context.specs.Knowledge.{IsKnown};
 ghost use Rattle.rz_kernel_rows.specs.Context.{IsAt};
 ghost use Rattle.rz_kernel_rows.specs.Line.{IsJudgmentOver};
 ghost use Rattle.rz_kernel_rows.specs.Move.{IsConclusion, IsTypeFor};
 ghost use Rattle.rz_kernel_rows.specs.Typing.{AreTyping, HasFormerType, HasNoTyping, IsTypingOf};
 
-use crate::find::find_subject;
 use crate::variables::variable_type;
+use rz_context::Knowledge;
 use rz_pool::Pool;
-use rz_rules::{Judgment, Kids, Kind, Name, Node, OutOfMemory, Row};
-use rz_scope::Knowledge;
-use rz_spell::spell;
+use rz_rule_text::{find_subject, spell};
+use rz_rules::{Judgment, Kids, Kind, OutOfMemory, Row};
 use std::alloc::Global;
 
 /// What the typing row of a term's former says of the term.
@@ -235,7 +234,7 @@ fn own_of(
     let Some(own) = own_type(alloc, pool, known, c, a)? else {
         return Ok(None);
     };
-    let universe = make_universe(alloc, pool)?;
+    let universe = make_universe(pool)?;
     Ok(Some(Judgment::Same {
         c,
         a: of,
@@ -245,17 +244,12 @@ fn own_of(
 }
 
 /// The id of the universe.
-fn make_universe(alloc: Global, pool: &mut Pool) -> Result<u64, OutOfMemory>
+fn make_universe(pool: &mut Pool) -> Result<u64, OutOfMemory>
     requires pool { IsPool pool.old.nodes }
     ensures tree { IfOk result (λ id. tree_of pool.new.nodes id ≡ universe) }
     ensures there { IfOk result (IsAt pool.new.nodes Term) }
     ensures grows { Grows pool.old.nodes pool.new.nodes }
     ensures pool { IsPool pool.new.nodes }
 {
-    pool.make(Node {
-        kind: Kind::Universe,
-        number: 0,
-        name: Name::new(alloc),
-        kids: Kids::new(),
-    })
+    pool.make_former(Kind::Universe, Kids::new())
 }

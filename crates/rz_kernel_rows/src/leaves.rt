@@ -5,9 +5,8 @@ ghost use Rattle.rz_rules.specs.Tree.{tree_of};
 ghost use Rattle.rz_rules.specs.Cube.{leaves};
 ghost use Rattle.rz_kernel_rows.specs.Leaves.{IsStep};
 
-use rz_pool::Pool;
+use rz_pool::{Pool, parts_of};
 use rz_rules::OutOfMemory;
-use rz_scope::parts_of;
 use std::alloc::Global;
 
 /// The most leaves that the cube of a context's entry may have.

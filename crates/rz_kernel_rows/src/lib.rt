@@ -3,7 +3,6 @@
 
 mod conditions;
 mod contexts;
-mod find;
 mod formers;
 mod leaves;
 mod lines;

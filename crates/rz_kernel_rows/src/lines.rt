@@ -1,7 +1,6 @@
 //! Whether a line follows.
 
 ghost use Rattle.std.specs.Prelude.{◌≡◌, ◌≢◌, ℕ, ◌↔◌, List, None, All, IsTrue, Some, IfOk, IfSome, IfNone, OnOk, map, slice_get};
-ghost use Rattle.std.specs.Option.{option_copied};
 ghost use Rattle.rz_rules.specs.declared.judgments.Judgment.{Judgment};
 ghost use Rattle.rz_rules.specs.Derivation.{Applies, Follows, IsSpelled};
 ghost use Rattle.rz_rules.specs.Judgment.{statement};
@@ -10,21 +9,20 @@ ghost use Rattle.rz_rules.specs.Structural.{ConcludesBy, IsContextOf};
 ghost use Rattle.rz_rules.specs.Table.{rule_of};
 ghost use Rattle.rz_rules.specs.Tree.{trees_in};
 ghost use Rattle.rz_pool.specs.Pool.{Grows, IsPool};
-ghost use Rattle.rz_scope.specs.Knowledge.{IsKnown};
-ghost use Rattle.rz_spell.specs.Letters.{assignment_of};
-ghost use Rattle.rz_spell.specs.Spelling.{AreLetters};
-ghost use Rattle.rz_kernel_rows.specs.Line.{IsInstanceOf, IsJudgmentOver, IsLineOver, said, statements_of, step_of};
+ghost use Rattle.rz_context.specs.Knowledge.{IsKnown};
+ghost use Rattle.rz_rule_text.specs.Letters.{assignment_of};
+ghost use Rattle.rz_rule_text.specs.Spelling.{AreLetters};
+ghost use Rattle.rz_kernel_rows.specs.Line.{IsInstanceOf, IsJudgmentOver, IsLineOver, said, statements_in, statements_of, step_of};
 ghost use Rattle.rz_kernel_rows.specs.Move.{IsConclusion, IsConclusionFor};
 
 use crate::conditions::{are_met, is_scoped};
-use crate::find::{Finding, find};
 use crate::formers::{inversion, own};
 use crate::moves::{remove, weaken};
 use crate::variables::{hypothesis, variable};
+use rz_context::Knowledge;
 use rz_pool::Pool;
+use rz_rule_text::{Finding, find, spell};
 use rz_rules::{Judgment, Line, OutOfMemory, Row, Scheme};
-use rz_scope::Knowledge;
-use rz_spell::spell;
 use std::alloc::Global;
 
 /// Whether a line follows by its row from earlier ones. All name nodes of one pool, by their ids.
@@ -42,32 +40,45 @@ pub fn follows(
         ↔ Follows (statements_of pool.old.nodes lines.now) (step_of pool.old.nodes line.now)) }
     ensures nodes { pool.new.nodes ≡ pool.old.nodes }
 {
+    let said = judgments_of(alloc, lines)?;
     let mark = pool.mark();
     let mut known = Knowledge::new(alloc, pool);
-    let answer = follows_with(alloc, pool, &mut known, lines, line);
+    let answer = follows_with(alloc, pool, &mut known, &said, line);
     pool.release(mark);
     answer
 }
 
-/// The same, with what was known of the pool's contexts before, and is known then.
+/// What lines say, in their order.
+fn judgments_of(alloc: Global, lines: &[Line]) -> Result<Vec<Judgment>, OutOfMemory>
+    ensures { IfOk result (λ judgments. judgments.items ≡ said lines.now) }
+{
+    let mut judgments = Vec::new(alloc);
+    for line in lines {
+        judgments.push(line.says)?;
+    }
+    Ok(judgments)
+}
+
+/// Whether a line follows by its row from what the earlier lines say, with what was known of the pool's contexts before,
+/// and is known then.
 ///
 /// The cubes of points that it makes in the pool stay there.
 pub fn follows_with(
     alloc: Global,
     pool: &mut Pool,
     known: &mut Knowledge,
-    lines: &[Line],
+    said: &[Judgment],
     line: &Line,
 ) -> Result<bool, OutOfMemory>
-    requires lines { All (IsLineOver pool.old.nodes) lines.now }
+    requires said { All (IsJudgmentOver pool.old.nodes) said.now }
     requires line { IsLineOver pool.old.nodes line.now }
     requires known { IsKnown pool.old.nodes known.old }
     ensures follows { IfOk result (λ yes. IsTrue yes
-        ↔ Follows (statements_of pool.old.nodes lines.now) (step_of pool.old.nodes line.now)) }
+        ↔ Follows (statements_in pool.old.nodes said.now) (step_of pool.old.nodes line.now)) }
     ensures known { OnOk result (IsKnown pool.new.nodes known.new) }
     ensures grows { Grows pool.old.nodes pool.new.nodes }
 {
-    let Some(premises) = premises_of(alloc, lines, line.from.as_slice())? else {
+    let Some(premises) = premises_of(alloc, said, line.from.as_slice())? else {
         return Ok(false);
     };
     if !applies(alloc, pool, known, line, premises)? {
@@ -272,17 +283,17 @@ fn are_equal(these: &[Judgment], those: &[Judgment]) -> bool
 /// What the lines say that are named as premises; `None` where one of them is no line.
 fn premises_of(
     alloc: Global,
-    lines: &[Line],
+    said: &[Judgment],
     from: &[u64],
 ) -> Result<Option<Vec<Judgment>>, OutOfMemory>
     ensures found { IfOk result (λ answer. IfSome answer (λ premises. map
-        (λ j. Some j) premises.items ≡ map (slice_get (said lines.now)) from.now)) }
+        (λ j. Some j) premises.items ≡ map (slice_get said.now) from.now)) }
     ensures none { IfOk result (λ answer. IfNone answer ((premises : List Judgment)
-        → map (λ j. Some j) premises ≡ map (slice_get (said lines.now)) from.now → ⊥)) }
+        → map (λ j. Some j) premises ≡ map (slice_get said.now) from.now → ⊥)) }
 {
     let mut premises = Vec::new(alloc);
     for step in from {
-        let Some(premise) = said_at(lines, *step) else {
+        let Some(premise) = said_at(said, *step) else {
             return Ok(None);
         };
         premises.push(premise)?;
@@ -290,17 +301,9 @@ fn premises_of(
     Ok(Some(premises))
 }
 
-/// The line of a step; `None` where there is none.
-fn line_at(lines: &[Line], step: u64) -> Option<&Line>
-    ensures { option_copied result ≡ slice_get lines.now step }
-{
-    lines.get(step as usize)
-}
-
 /// What a step says; `None` where there is none.
-fn said_at(lines: &[Line], step: u64) -> Option<Judgment>
-    ensures { result ≡ slice_get (said lines.now) step }
+fn said_at(said: &[Judgment], step: u64) -> Option<Judgment>
+    ensures { result ≡ slice_get said.now step }
 {
-    let line = line_at(lines, step)?;
-    Some(line.says)
+    said.get(step as usize).copied()
 }

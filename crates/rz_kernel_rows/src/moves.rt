@@ -18,9 +18,8 @@ ghost use Rattle.rz_kernel_rows.specs.Line.{IsJudgmentOver};
 ghost use Rattle.rz_kernel_rows.specs.Move.{AllowsNoPoint, AllowsNoTerm, AllowsPoint, AllowsTerm, AreAnswersOf, IsConclusion, IsEntryBefore, IsEqualityOf, IsExtended, IsHeld, IsJudgmentFor, IsNoContext, IsNoEquality, IsNotRemoved, IsRemoval, IsRemovedBy, IsThere, changes_of};
 
 use crate::contexts::{cut_before, split_at};
-use rz_pool::{Counts, Pool};
-use rz_rules::{Judgment, Kids, Kind, Name, Node, OutOfMemory, Scheme, Space};
-use rz_scope::{Entry, Last, deeper, last_entry, three_kids};
+use rz_pool::{Counts, Entry, Last, Pool, deeper, last_entry, three_kids};
+use rz_rules::{Judgment, Kids, Kind, OutOfMemory, Scheme, Space};
 use std::alloc::Global;
 
 /// What becomes of the variables that are bound outside of a cut.
@@ -69,7 +68,7 @@ fn change_tree(
 }
 
 /// The id of a context with one entry more.
-fn add_entry(alloc: Global, pool: &mut Pool, context: u64, entry: Entry) -> Result<u64, OutOfMemory>
+fn add_entry(pool: &mut Pool, context: u64, entry: Entry) -> Result<u64, OutOfMemory>
     requires context { IsAt pool.old.nodes Context context }
     requires entry { IsEntryAt pool.old.nodes entry }
     ensures tree { IfOk result (λ id. tree_of pool.new.nodes id
@@ -78,12 +77,7 @@ fn add_entry(alloc: Global, pool: &mut Pool, context: u64, entry: Entry) -> Resu
     ensures grows { Grows pool.old.nodes pool.new.nodes }
     ensures pool { IsPool pool.new.nodes }
 {
-    pool.make(Node {
-        kind: entry.kind(),
-        number: 0,
-        name: Name::new(alloc),
-        kids: Kids::from_slice(&[context, entry.tree()]),
-    })
+    pool.make_former(entry.kind(), Kids::from_slice(&[context, entry.tree()]))
 }
 
 /// A context with these entries behind it, the innermost first, where the variables outside of them change; `None` where
@@ -114,7 +108,7 @@ fn extend(
         let Some(tree) = change_tree(alloc, pool, change, entry.tree(), depth)? else {
             return Ok(None);
         };
-        context = add_entry(alloc, pool, context, entry.with_tree(tree))?;
+        context = add_entry(pool, context, entry.with_tree(tree))?;
         depth = deeper(depth, *entry)?;
         left = others;
     }

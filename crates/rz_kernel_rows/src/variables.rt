@@ -6,14 +6,14 @@ ghost use Rattle.rz_rules.specs.Judgment.{statement};
 ghost use Rattle.rz_rules.specs.Structural.{IsHypothesis, IsVariable, TypesVariable, formed, term_variable};
 ghost use Rattle.rz_rules.specs.Tree.{tree_of, trees_in};
 ghost use Rattle.rz_pool.specs.Pool.{Grows, IsPool};
-ghost use Rattle.rz_scope.specs.Knowledge.{IsKnown};
+ghost use Rattle.rz_context.specs.Knowledge.{IsKnown};
 ghost use Rattle.rz_kernel_rows.specs.Context.{IsAt};
 ghost use Rattle.rz_kernel_rows.specs.Line.{IsJudgmentOver};
 ghost use Rattle.rz_kernel_rows.specs.Move.{IsConclusion, IsConclusionFor, IsTypeFor};
 
-use rz_pool::Pool;
+use rz_context::{Knowledge, Measure};
+use rz_pool::{Entry, Pool, deeper};
 use rz_rules::{Judgment, Kind, OutOfMemory};
-use rz_scope::{Entry, Knowledge, Measure, deeper};
 use std::alloc::Global;
 
 /// That the tope of the entry with this number holds, where the premises say that the context is formed.

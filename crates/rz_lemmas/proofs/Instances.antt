@@ -24,9 +24,9 @@ use Rattle.rz_rules.specs.Derivation.{AppliesBy, Follows, IsMet, IsScoped, IsSpe
 use Rattle.rz_rules.specs.Row.{Assignment, letters_in, spelled}
 use Rattle.rz_rules.specs.Table.{rule_of}
 use Rattle.rz_rules.specs.Text.{same_sort}
-use Rattle.rz_spell.specs.Letters.{IsFound, assignment_of, letter_at}
-use Rattle.rz_spell.specs.Spelling.{AreLetters, IsJudgmentOver}
-use Rattle.rz_spell.proofs.Over.{IsStatement-over, letters_have_sorts}
+use Rattle.rz_rule_text.specs.Letters.{IsFound, assignment_of, letter_at}
+use Rattle.rz_rule_text.specs.Spelling.{AreLetters, IsJudgmentOver}
+use Rattle.rz_rule_text.proofs.Over.{IsStatement-over, letters_have_sorts}
 use Rattle.rz_pool.specs.Pool.{Grows, IsPool}
 use Rattle.rz_log.specs.Log.{IsSoundLog, statements_of, step_of}
 use Rattle.rz_log.proofs.Worlds.{statements_grown}

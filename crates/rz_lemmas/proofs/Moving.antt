@@ -28,14 +28,14 @@ use Rattle.rz_rules.proofs.Contexts.{IsTree-outer, length-changed_entries}
 use Rattle.rz_pool.specs.Pool.{Grows, IsPool}
 use Rattle.rz_pool.proofs.Nodes.{KeepsTrees-Grows, length-Grows}
 use Rattle.rz_pool.specs.Counts as counts
-use Rattle.rz_scope.specs.declared.entries.Entry.TheVariants as entry
-use Rattle.rz_scope.specs.declared.entries.Entry as scope
-use Rattle.rz_scope.specs.Entry.{IsAt, entry_over, tree_in}
-use Rattle.rz_spell.specs.Spelling.{IsJudgmentOver}
-use Rattle.rz_spell.proofs.Over.{IsStatement-over}
-use Rattle.rz_laws.specs.Good.{AreGoodParts, IsGoodStatement}
-use Rattle.rz_laws.specs.Place.{place_of}
-use Rattle.rz_laws.proofs.Structural.{schemes_keep}
+use Rattle.rz_pool.specs.declared.entries.Entry.TheVariants as entry
+use Rattle.rz_pool.specs.declared.entries.Entry as scope
+use Rattle.rz_pool.specs.Entry.{IsAt, entry_over, tree_in}
+use Rattle.rz_rule_text.specs.Spelling.{IsJudgmentOver}
+use Rattle.rz_rule_text.proofs.Over.{IsStatement-over}
+use Rattle.rz_metatheory.specs.Good.{AreGoodParts, IsGoodStatement}
+use Rattle.rz_metatheory.specs.Place.{place_of}
+use Rattle.rz_metatheory.proofs.Structural.{schemes_keep}
 use Rattle.rz_log.specs.declared.world.World.{World}
 use Rattle.rz_log.specs.Log.{IsLineOver, statements_of, step_of}
 use Rattle.rz_log.specs.World.{IsSound, Says, statements_in}

@@ -12,8 +12,8 @@ use Rattle.rz_rules.specs.declared.symbols.Symbol.{Symbol}
 use Rattle.rz_rules.specs.declared.symbols.Symbol.TheVariants as symbol
 use Rattle.rz_rules.specs.declared.symbols.TheConstants.{LETTERS}
 use Rattle.rz_rules.specs.Text.{IsText, Mark, marks_of, with_mark}
-use Rattle.rz_spell.proofs.Putting.{if_some}
-use Rattle.rz_spell.proofs.Whole.{marks_behind}
+use Rattle.rz_rule_text.proofs.Putting.{if_some}
+use Rattle.rz_rule_text.proofs.Whole.{marks_behind}
 use Rattle.rz_lemmas.specs.Letters.{slots, sort_of_letter}
 
 -- ---- the letters of the end of a text

@@ -10,10 +10,10 @@ use Rattle.rz_rules.specs.Context as context
 use Rattle.rz_rules.proofs.Contexts.{with_entry-same}
 use Rattle.rz_pool.specs.Counts as counts
 use Rattle.rz_pool.specs.declared.counts.Counts.{Counts}
-use Rattle.rz_scope.specs.declared.entries.Last.{Last}
-use Rattle.rz_scope.specs.declared.entries.Entry.TheVariants as entry
-use Rattle.rz_scope.specs.declared.entries.Entry as scope
-use Rattle.rz_scope.specs.Entry.{IsLast, bound_by, entry_over}
+use Rattle.rz_pool.specs.declared.entries.Last.{Last}
+use Rattle.rz_pool.specs.declared.entries.Entry.TheVariants as entry
+use Rattle.rz_pool.specs.declared.entries.Entry as scope
+use Rattle.rz_pool.specs.Entry.{IsLast, bound_by, entry_over}
 use Rattle.rz_lemmas.specs.declared.places.Outside.{Outside}
 use Rattle.rz_lemmas.specs.Behind.{HasBehind, IsOutside, IsWalking}
 

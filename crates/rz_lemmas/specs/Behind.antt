@@ -7,9 +7,9 @@ use Rattle.rz_rules.specs.declared.nodes.Node.{Node}
 use Rattle.rz_rules.specs.Tree.{Tree, tree_of}
 use Rattle.rz_rules.specs.Context.{Entry, depth_of, with_entries}
 use Rattle.rz_pool.specs.Counts as counts
-use Rattle.rz_scope.specs.declared.entries.Entry as scope
-use Rattle.rz_scope.specs.declared.entries.Entry.TheVariants as entry
-use Rattle.rz_scope.specs.Entry.{IsEntryAt, entry_over}
+use Rattle.rz_pool.specs.declared.entries.Entry as scope
+use Rattle.rz_pool.specs.declared.entries.Entry.TheVariants as entry
+use Rattle.rz_pool.specs.Entry.{IsEntryAt, entry_over}
 use Rattle.rz_lemmas.specs.declared.places.Outside.{Outside}
 use Rattle.rz_lemmas.specs.declared.places.Found.{Found}
 

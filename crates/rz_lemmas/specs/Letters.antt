@@ -10,8 +10,8 @@ use Rattle.rz_rules.specs.declared.symbols.TheConstants.{LETTERS}
 use Rattle.rz_rules.specs.Tree.{sort_of, tree_of}
 use Rattle.rz_rules.specs.Row.{Assignment}
 use Rattle.rz_rules.specs.Table.{rule_of}
-use Rattle.rz_spell.specs.Letters.{assignment_of, has_name}
-use Rattle.rz_spell.specs.Spelling.{IsNamed}
+use Rattle.rz_rule_text.specs.Letters.{assignment_of, has_name}
+use Rattle.rz_rule_text.specs.Spelling.{IsNamed}
 
 -- the sort of the letter with a number, where a text has it
 abbrev pub sort_of_letter : List Symbol → ℕ → Option Sort

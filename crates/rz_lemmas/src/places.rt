@@ -6,9 +6,8 @@ ghost use Rattle.rz_rules.specs.Context.{with_entry};
 ghost use Rattle.rz_rules.specs.Tree.{Tree, tree_of};
 ghost use Rattle.rz_lemmas.specs.Behind.{HasBehind, IsEntryFound, IsOutside};
 
-use rz_pool::{Counts, Pool};
+use rz_pool::{Counts, Entry, Pool, deeper, last_entry};
 use rz_rules::OutOfMemory;
-use rz_scope::{Entry, deeper, last_entry};
 
 /// What stands outside of a place in a context.
 #[derive(Clone, Copy, Debug)]

@@ -9,8 +9,8 @@ ghost use Rattle.rz_rules.specs.Substitution.{changed, none, only, raising, weak
 ghost use Rattle.rz_rules.specs.Tree.{Tree, tree_of, trees_in};
 ghost use Rattle.rz_pool.specs.Counts.{depth_of};
 ghost use Rattle.rz_pool.specs.Pool.{Grows, IsPool};
-ghost use Rattle.rz_scope.specs.Entry.{IsAt};
-ghost use Rattle.rz_spell.specs.Spelling.{IsJudgmentOver};
+ghost use Rattle.rz_pool.specs.Entry.{IsAt};
+ghost use Rattle.rz_rule_text.specs.Spelling.{IsJudgmentOver};
 ghost use Rattle.rz_log.specs.World as world;
 ghost use Rattle.rz_log.specs.World.{IsSound, Says};
 ghost use Rattle.rz_lemmas.specs.Behind.{HasBehind, bound_in};
@@ -18,9 +18,8 @@ ghost use Rattle.rz_lemmas.specs.Moves.{CanWeaken, HasTope, hypothesis_of, raise
 
 use crate::places::{Found, find};
 use rz_log::World;
-use rz_pool::{Counts, Pool};
+use rz_pool::{Counts, Entry, Pool};
 use rz_rules::{Judgment, Line, Numbers, OutOfMemory, Row, Space};
-use rz_scope::Entry;
 use std::alloc::Global;
 
 /// A tree that stands behind an entry, at a depth, as it is read where the entry is one more.

@@ -7,7 +7,7 @@ ghost use Rattle.rz_rules.specs.Judgment.{statement};
 ghost use Rattle.rz_rules.specs.Table.{rule_of};
 ghost use Rattle.rz_rules.specs.Tree.{trees_in};
 ghost use Rattle.rz_pool.specs.Pool.{Grows, IsPool};
-ghost use Rattle.rz_spell.specs.Spelling.{IsJudgmentOver};
+ghost use Rattle.rz_rule_text.specs.Spelling.{IsJudgmentOver};
 ghost use Rattle.rz_log.specs.World as world;
 ghost use Rattle.rz_log.specs.World.{IsSound, Says, statements_in};
 ghost use Rattle.rz_lemmas.specs.Letters.{StandFor, letters_at};
@@ -16,8 +16,8 @@ ghost use Rattle.rz_lemmas.specs.Conclude.{conclusion_of, conclusion_is_scoped, 
 use crate::letters::place;
 use rz_log::World;
 use rz_pool::Pool;
+use rz_rule_text::spell;
 use rz_rules::{Judgment, Line, Numbers, OutOfMemory, Row};
-use rz_spell::spell;
 use std::alloc::Global;
 
 /// A step that says the conclusion of a row, where its letters stand for the trees of these ids, in the order of the letters'

@@ -5,9 +5,9 @@ use Rattle.rz_rules.specs.declared.nodes.Node.{Node}
 use Rattle.rz_rules.specs.declared.judgments.Line.{Line}
 use Rattle.rz_rules.specs.Judgment.{Statement}
 use Rattle.rz_rules.specs.Derivation.{Follows, Step}
-use Rattle.rz_laws.specs.Derivation.{Derives, FollowAfter}
-use Rattle.rz_laws.specs.Good.{IsGoodStatement}
-use Rattle.rz_laws.proofs.Derived.{derived_good}
+use Rattle.rz_metatheory.specs.Derivation.{Derives, FollowAfter}
+use Rattle.rz_metatheory.specs.Good.{IsGoodStatement}
+use Rattle.rz_metatheory.proofs.Derived.{derived_good}
 use Rattle.rz_log.specs.declared.world.World.{World}
 use Rattle.rz_log.specs.Log.{IsSoundLog, statements_of, step_of}
 use Rattle.rz_log.specs.World.{IsSound, Says}

@@ -2,8 +2,8 @@
 
 ghost use Rattle.std.specs.Prelude.{ℕ, ◌≤◌, length};
 ghost use Rattle.rz_rules.specs.Judgment.{Statement};
-ghost use Rattle.rz_laws.specs.Derivation.{Derives};
-ghost use Rattle.rz_laws.specs.Scope.{IsScopedStatement};
+ghost use Rattle.rz_metatheory.specs.Derivation.{Derives};
+ghost use Rattle.rz_metatheory.specs.Scope.{IsScopedStatement};
 ghost use Rattle.rz_log.specs.World.{EndsBelow, Grows, IsSound, Says};
 ghost use Rattle.rz_log.specs.declared.world.Mark.{Mark};
 ghost use Rattle.rz_log.specs.declared.world.World.{World};

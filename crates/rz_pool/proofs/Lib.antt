@@ -8,3 +8,4 @@ pub mod Listing
 pub mod Copying
 pub mod Sorts
 pub mod WellFormed
+pub mod NoEntry

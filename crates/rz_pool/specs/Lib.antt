@@ -4,3 +4,5 @@ pub mod Spans
 pub mod Pool
 pub mod Free
 pub mod Copy
+pub mod Cubes
+pub mod Entry

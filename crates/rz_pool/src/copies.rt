@@ -12,6 +12,7 @@ ghost use Rattle.rz_pool.specs.Copy.{ListsParts, IsCopied};
 
 use crate::keys::HashKey;
 use crate::pool::Pool;
+use crate::waiting::add_all;
 use rz_rules::{Kids, Node, OutOfMemory};
 use std::collections::{BTreeSet, HashMap};
 
@@ -25,17 +26,6 @@ fn copied_kids(kids: &Kids, copies: &HashMap<u64, u64, HashKey>) -> Kids
         copied.push(copies[kid]);
     }
     copied
-}
-
-/// Adds ids to those that wait.
-fn add_all(waiting: &mut BTreeSet<u64>, ids: &[u64]) -> Result<(), OutOfMemory>
-    ensures { OnOk result ((q : ℕ) → contains nat_cmp waiting.new q
-        ≡ (contains nat_cmp waiting.old q || list_any (eq_by_cmp nat_cmp q) ids.now)) }
-{
-    for id in ids {
-        waiting.insert(*id)?;
-    }
-    Ok(())
 }
 
 impl Pool {

@@ -8,3 +8,5 @@ pub mod SubstitutionVariables
 pub mod Substitution
 pub mod Contexts
 pub mod Depths
+pub mod Same
+pub mod Entailment

@@ -1,5 +1,5 @@
 -- Coordinates: what a point over what a context binds has at each place where its cube has the directed interval.
-use Rattle.std.specs.Prelude.{ℕ, ◌+◌, ◌==◌, ◌&&◌, Bool, true, false, List, [], ◌∷◌, ◌++◌, Option, Some, None, map, take, drop, slice_get}
+use Rattle.std.specs.Prelude.{ℕ, ◌+◌, ◌==◌, ◌&&◌, nat_eq, cond, Bool, true, false, List, [], ◌∷◌, ◌++◌, Option, Some, None, map, take, drop, slice_get}
 use Rattle.std.specs.Str.{bytes_eq}
 use Rattle.rz_rules.specs.declared.kinds.Kind.TheVariants.{CubeTwo, Product, PointVariable, Zero, One, PointPair, PointLeft, PointRight}
 use Rattle.rz_rules.specs.declared.coordinates.Coord.{Coord}
@@ -7,7 +7,7 @@ use Rattle.rz_rules.specs.declared.coordinates.Coord.TheVariants as coordinate
 use Rattle.rz_rules.specs.declared.coordinates.TheConstants.{LEFT, RIGHT}
 use Rattle.rz_rules.specs.Tree.{Tree, At, Nil, And}
 use Rattle.rz_rules.specs.Cube.{Binders}
-use Rattle.rz_rules.specs.Tope.{cube_of}
+use Rattle.rz_rules.specs.Tope.{cube_of, point_variable, zero_end, one_end, left, right}
 
 -- the ways to the leaves of a cube that are the directed interval, from left to right, that of the outermost product first
 abbrev pub paths : Tree → List (List ℕ)
@@ -60,3 +60,18 @@ abbrev pub raised : Coord → Coord
 raised (coordinate.Of variable path) = coordinate.Of (variable + 1) path
 raised coordinate.Zero = coordinate.Zero
 raised coordinate.One = coordinate.One
+
+-- the part of a point on one side
+abbrev pub half : ℕ → Tree → Tree
+half way point = cond (nat_eq way LEFT) (left point) (right point)
+
+-- the part of a point at the end of a path
+abbrev pub part_at : Tree → List ℕ → Tree
+part_at point [] = point
+part_at point (way ∷ path) = part_at (half way point) path
+
+-- the point of the directed interval that is this coordinate
+abbrev pub point_of : Coord → Tree
+point_of coordinate.Zero = zero_end
+point_of coordinate.One = one_end
+point_of (coordinate.Of variable path) = part_at (point_variable variable) path

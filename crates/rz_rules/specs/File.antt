@@ -120,11 +120,15 @@ abbrev pub state_after : FileState → List Item → FileState
 state_after state [] = state
 state_after state (item ∷ items) = state_after (extended state item) items
 
--- the bytes are a file of derivations, with these claims
-abbrev pub IsFile : List ℕ → List Claim → Type 0
-IsFile bytes claims =
+-- the bytes are a file of derivations in format 1, with these claims
+abbrev pub IsFormatOne : List ℕ → List Claim → Type 0
+IsFormatOne bytes claims =
     (items : List Item) × AllFit empty_state items × AllFollow empty_state items
     × (bytes ≡ concat (lines_of items)) × (claims ≡ (state_after empty_state items).claims)
+
+-- the bytes are a file of derivations, with these claims; there is one format
+abbrev pub IsFile : List ℕ → List Claim → Type 0
+IsFile bytes claims = IsFormatOne bytes claims
 
 -- the lines of any bytes, each with its line feed, and last what has none
 abbrev pub lines : List ℕ → List (List ℕ)

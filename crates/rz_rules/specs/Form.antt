@@ -31,7 +31,7 @@ under_point sort = record { sort = sort; points = 1; terms = 0 }
 abbrev pub under_term : Sort → Slot
 under_term sort = record { sort = sort; points = 0; terms = 1 }
 
--- an entry of the code's table
+-- a row of the code's table
 abbrev pub node : record { now : List ℕ } × Sort × record { now : List Slot } × Role → KindForm
 node entry = record { word = entry.0.now; sort = entry.1; kids = entry.2.now; role = entry.3 }
 
@@ -104,18 +104,18 @@ is_named (Variable space) = false
 is_named Declared = true
 is_named Former = false
 
--- the code answers this entry
-pub record IsEntry (form : KindForm) (entry : Bor (List ℕ) × Sort × Bor (List Slot) × Role) : Type 0 where
-  pub word : entry.0.now ≡ form.word
-  pub sort : entry.1 ≡ form.sort
-  pub kids : entry.2.now ≡ form.kids
-  pub role : entry.3 ≡ form.role
+-- the code answers this row of the table
+pub record IsKindRow (form : KindForm) (row : Bor (List ℕ) × Sort × Bor (List Slot) × Role) : Type 0 where
+  pub word : row.0.now ≡ form.word
+  pub sort : row.1 ≡ form.sort
+  pub kids : row.2.now ≡ form.kids
+  pub role : row.3 ≡ form.role
 
-pub record IsForm (form : KindForm) (told : Form) : Type 0 where
-  pub word : told.word.now ≡ form.word
-  pub sort : told.sort ≡ form.sort
-  pub kids : told.kids.now ≡ form.kids
-  pub role : told.role ≡ form.role
+pub record IsForm (form : KindForm) (given : Form) : Type 0 where
+  pub word : given.word.now ≡ form.word
+  pub sort : given.sort ≡ form.sort
+  pub kids : given.kids.now ≡ form.kids
+  pub role : given.role ≡ form.role
 
 abbrev pub word_of_kind : Kind → List ℕ
 word_of_kind kind = (form kind).word

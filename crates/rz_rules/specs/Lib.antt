@@ -2,6 +2,7 @@ pub mod Name
 pub mod Form
 pub mod Kids
 pub mod Tree
+pub mod Same
 pub mod Substitution
 pub mod Cube
 pub mod Tope

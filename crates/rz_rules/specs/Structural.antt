@@ -1,12 +1,13 @@
 -- The structural rules: what a context gives, how judgments move from context to context, and what a term's former tells.
 use Rattle.std.specs.Prelude.{◌≡◌, ℕ, List, [], ◌∷◌, ◌++◌, length, map, All, Some, slice_get, ◌⊎◌}
-use Rattle.rz_rules.specs.declared.kinds.Kind.TheVariants.{EqualPoints, Universe, TermVariable}
+use Rattle.rz_rules.specs.declared.kinds.Kind.TheVariants.{Universe, TermVariable}
 use Rattle.rz_rules.specs.declared.kinds.Space.TheVariants.{Points, Terms}
 use Rattle.rz_rules.specs.declared.judgments.JudgmentKind.TheVariants as kind
 use Rattle.rz_rules.specs.declared.rows.Row.{Row}
 use Rattle.rz_rules.specs.declared.rows.Scheme.{Scheme}
 use Rattle.rz_rules.specs.declared.rows.Scheme.TheVariants as scheme
-use Rattle.rz_rules.specs.Tree.{Tree, At, Nil, And, kind_at}
+use Rattle.rz_rules.specs.Tree.{Tree, At, Nil, kind_at}
+use Rattle.rz_rules.specs.Tope.{equal_points}
 use Rattle.rz_rules.specs.Substitution.{Changes, changed, none, only, total, raising, putting, weakened}
 use Rattle.rz_rules.specs.Context.{Entry, OfCube, OfTope, OfType, with_entry, with_entries, bound_by, depth_of, changed_entries}
 use Rattle.rz_rules.specs.Judgment.{Statement, IsStatement}
@@ -31,9 +32,6 @@ term_variable index = At TermVariable index [] Nil
 
 abbrev pub universe : Tree
 universe = At Universe 0 [] Nil
-
-abbrev pub equal_points : Tree → Tree → Tree → Tree
-equal_points cube left right = At EqualPoints 0 [] (And cube (And left (And right Nil)))
 
 -- ---- what a context gives
 

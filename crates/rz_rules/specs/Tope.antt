@@ -1,8 +1,46 @@
--- Points and topes over what a context binds.
-use Rattle.std.specs.Prelude.{◌≡◌, Option, Some, None, slice_get, option_and_then}
+-- Points and topes: how they are written, and which of them are over what a context binds.
+use Rattle.std.specs.Prelude.{◌≡◌, ℕ, [], Option, Some, None, slice_get, option_and_then}
 use Rattle.rz_rules.specs.declared.kinds.Kind.TheVariants.{PointVariable, OnlyPoint, Zero, One, PointPair, PointLeft, PointRight, Top, Bottom, Conjunction, Disjunction, EqualPoints, AtMost}
 use Rattle.rz_rules.specs.Tree.{Tree, At, Nil, And}
 use Rattle.rz_rules.specs.Cube.{Binders, cube_one, cube_two, product, left_part, right_part}
+
+-- points: a variable by its index, the ends of the directed interval, a pair, and the two parts of a point of a product
+abbrev pub point_variable : ℕ → Tree
+point_variable index = At PointVariable index [] Nil
+
+abbrev pub zero_end : Tree
+zero_end = At Zero 0 [] Nil
+
+abbrev pub one_end : Tree
+one_end = At One 0 [] Nil
+
+abbrev pub pair : Tree → Tree → Tree
+pair s u = At PointPair 0 [] (And s (And u Nil))
+
+abbrev pub left : Tree → Tree
+left s = At PointLeft 0 [] (And s Nil)
+
+abbrev pub right : Tree → Tree
+right s = At PointRight 0 [] (And s Nil)
+
+-- topes: the one that always holds and the one that never does, connectives, equality at a cube, and order
+abbrev pub top : Tree
+top = At Top 0 [] Nil
+
+abbrev pub bottom : Tree
+bottom = At Bottom 0 [] Nil
+
+abbrev pub conjunction : Tree → Tree → Tree
+conjunction p q = At Conjunction 0 [] (And p (And q Nil))
+
+abbrev pub disjunction : Tree → Tree → Tree
+disjunction p q = At Disjunction 0 [] (And p (And q Nil))
+
+abbrev pub equal_points : Tree → Tree → Tree → Tree
+equal_points cube s u = At EqualPoints 0 [] (And cube (And s (And u Nil)))
+
+abbrev pub at_most : Tree → Tree → Tree
+at_most s u = At AtMost 0 [] (And s (And u Nil))
 
 -- the cube of a point, where it has one
 abbrev pub cube_of : Binders → Tree → Option Tree

@@ -91,3 +91,29 @@ rank_lists coordinates = lists_below (length coordinates + 2) coordinates
 -- whether a tope follows, by trying all rank lists
 abbrev pub is_valid : Tree → Tree → Bool
 is_valid context tope = list_all (keeps_truth context tope) (rank_lists (occurring context tope))
+
+-- ranks of the coordinates that occur make all topes of the context true and the tope false
+pub record Refutes (context tope : Tree) (ranks : RankList) : Type 0 where
+  pub ranks_are : IsRankList (occurring context tope) ranks
+  pub context_is_true : IsTrue (are_true (rank_in ranks) context)
+  pub tope_is_false : truth (binders_of context) (rank_in ranks) tope ≡ false
+
+-- the most coordinates of variables of which a question may speak
+abbrev pub coordinates_limit : ℕ
+coordinates_limit = 8
+
+-- what is answered where it is asked whether a tope follows from those of a context
+pub data Entailment : Type 0 where
+  Valid : Entailment
+  Invalid : Entailment
+  -- so many coordinates occur in the topes, which are too many, and no answer is given
+  Over : (coordinates : ℕ) → Entailment
+
+-- A tope of a context. The coordinates are counted before anything is tried, also where the answer is plain.
+abbrev pub entailment : Tree → Tree → Entailment
+entailment context tope =
+    let count = length (occurring context tope) in
+    elim (nat_le count coordinates_limit) [
+      | false ↦ Over count
+      | true ↦ elim (is_valid context tope) [ true ↦ Valid | false ↦ Invalid ]
+    ]

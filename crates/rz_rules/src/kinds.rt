@@ -1,7 +1,7 @@
 //! The node table: the kinds of nodes, and what each is made of.
 
 ghost use Rattle.std.specs.Prelude.{◌≡◌};
-ghost use Rattle.rz_rules.specs.Form.{form, IsEntry, IsForm, word_of_kind, all_kinds, is_numbered, is_named, bound, kind_words_are_distinct};
+ghost use Rattle.rz_rules.specs.Form.{form, IsKindRow, IsForm, word_of_kind, all_kinds, is_numbered, is_named, bound, kind_words_are_distinct};
 
 use crate::words::Worded;
 
@@ -226,126 +226,126 @@ const X_TERM: Slot = Slot {
 };
 
 /// A row of the node table: the word, the sort, the places of the kids, and what the number and the name are.
-pub type Entry = (&'static str, Sort, &'static [Slot], Role);
+pub type KindRow = (&'static str, Sort, &'static [Slot], Role);
 
-pub const CUBE_ONE: Entry = ("c1", Sort::Cube, &[], Role::Former);
+pub const CUBE_ONE: KindRow = ("c1", Sort::Cube, &[], Role::Former);
 
-pub const CUBE_TWO: Entry = ("c2", Sort::Cube, &[], Role::Former);
+pub const CUBE_TWO: KindRow = ("c2", Sort::Cube, &[], Role::Former);
 
-pub const PRODUCT: Entry = ("cx", Sort::Cube, &[CUBE, CUBE], Role::Former);
+pub const PRODUCT: KindRow = ("cx", Sort::Cube, &[CUBE, CUBE], Role::Former);
 
-pub const POINT_VARIABLE: Entry = ("pv", Sort::Point, &[], Role::Variable(Space::Points));
+pub const POINT_VARIABLE: KindRow = ("pv", Sort::Point, &[], Role::Variable(Space::Points));
 
-pub const ONLY_POINT: Entry = ("pstar", Sort::Point, &[], Role::Former);
+pub const ONLY_POINT: KindRow = ("pstar", Sort::Point, &[], Role::Former);
 
-pub const ZERO: Entry = ("p0", Sort::Point, &[], Role::Former);
+pub const ZERO: KindRow = ("p0", Sort::Point, &[], Role::Former);
 
-pub const ONE: Entry = ("p1", Sort::Point, &[], Role::Former);
+pub const ONE: KindRow = ("p1", Sort::Point, &[], Role::Former);
 
-pub const POINT_PAIR: Entry = ("pp", Sort::Point, &[POINT, POINT], Role::Former);
+pub const POINT_PAIR: KindRow = ("pp", Sort::Point, &[POINT, POINT], Role::Former);
 
-pub const POINT_LEFT: Entry = ("pl", Sort::Point, &[POINT], Role::Former);
+pub const POINT_LEFT: KindRow = ("pl", Sort::Point, &[POINT], Role::Former);
 
-pub const POINT_RIGHT: Entry = ("pr", Sort::Point, &[POINT], Role::Former);
+pub const POINT_RIGHT: KindRow = ("pr", Sort::Point, &[POINT], Role::Former);
 
-pub const TOP: Entry = ("ttop", Sort::Tope, &[], Role::Former);
+pub const TOP: KindRow = ("ttop", Sort::Tope, &[], Role::Former);
 
-pub const BOTTOM: Entry = ("tbot", Sort::Tope, &[], Role::Former);
+pub const BOTTOM: KindRow = ("tbot", Sort::Tope, &[], Role::Former);
 
-pub const CONJUNCTION: Entry = ("tand", Sort::Tope, &[TOPE, TOPE], Role::Former);
+pub const CONJUNCTION: KindRow = ("tand", Sort::Tope, &[TOPE, TOPE], Role::Former);
 
-pub const DISJUNCTION: Entry = ("tor", Sort::Tope, &[TOPE, TOPE], Role::Former);
+pub const DISJUNCTION: KindRow = ("tor", Sort::Tope, &[TOPE, TOPE], Role::Former);
 
-pub const EQUAL_POINTS: Entry = ("teq", Sort::Tope, &[CUBE, POINT, POINT], Role::Former);
+pub const EQUAL_POINTS: KindRow = ("teq", Sort::Tope, &[CUBE, POINT, POINT], Role::Former);
 
-pub const AT_MOST: Entry = ("tle", Sort::Tope, &[POINT, POINT], Role::Former);
+pub const AT_MOST: KindRow = ("tle", Sort::Tope, &[POINT, POINT], Role::Former);
 
-pub const UNIVERSE: Entry = ("U", Sort::Term, &[], Role::Former);
+pub const UNIVERSE: KindRow = ("U", Sort::Term, &[], Role::Former);
 
-pub const TERM_VARIABLE: Entry = ("v", Sort::Term, &[], Role::Variable(Space::Terms));
+pub const TERM_VARIABLE: KindRow = ("v", Sort::Term, &[], Role::Variable(Space::Terms));
 
-pub const CONSTANT: Entry = ("const", Sort::Term, &[TERM, TERM], Role::Declared);
+pub const CONSTANT: KindRow = ("const", Sort::Term, &[TERM, TERM], Role::Declared);
 
-pub const POSTULATE: Entry = ("post", Sort::Term, &[TERM], Role::Declared);
+pub const POSTULATE: KindRow = ("post", Sort::Term, &[TERM], Role::Declared);
 
-pub const PI: Entry = ("pi", Sort::Term, &[TERM, X_TERM], Role::Former);
+pub const PI: KindRow = ("pi", Sort::Term, &[TERM, X_TERM], Role::Former);
 
-pub const LAMBDA: Entry = ("lam", Sort::Term, &[TERM, X_TERM, X_TERM], Role::Former);
+pub const LAMBDA: KindRow = ("lam", Sort::Term, &[TERM, X_TERM, X_TERM], Role::Former);
 
-pub const APPLICATION: Entry = ("app", Sort::Term, &[TERM, X_TERM, TERM, TERM], Role::Former);
+pub const APPLICATION: KindRow = ("app", Sort::Term, &[TERM, X_TERM, TERM, TERM], Role::Former);
 
-pub const SIGMA: Entry = ("sig", Sort::Term, &[TERM, X_TERM], Role::Former);
+pub const SIGMA: KindRow = ("sig", Sort::Term, &[TERM, X_TERM], Role::Former);
 
-pub const PAIR: Entry = (
+pub const PAIR: KindRow = (
     "pair",
     Sort::Term,
     &[TERM, X_TERM, TERM, TERM],
     Role::Former,
 );
 
-pub const FIRST: Entry = ("fst", Sort::Term, &[TERM, X_TERM, TERM], Role::Former);
+pub const FIRST: KindRow = ("fst", Sort::Term, &[TERM, X_TERM, TERM], Role::Former);
 
-pub const SECOND: Entry = ("snd", Sort::Term, &[TERM, X_TERM, TERM], Role::Former);
+pub const SECOND: KindRow = ("snd", Sort::Term, &[TERM, X_TERM, TERM], Role::Former);
 
-pub const IDENTITY: Entry = ("id", Sort::Term, &[TERM, TERM, TERM], Role::Former);
+pub const IDENTITY: KindRow = ("id", Sort::Term, &[TERM, TERM, TERM], Role::Former);
 
-pub const REFLEXIVITY: Entry = ("refl", Sort::Term, &[TERM, TERM], Role::Former);
+pub const REFLEXIVITY: KindRow = ("refl", Sort::Term, &[TERM, TERM], Role::Former);
 
-pub const IDENTITY_INDUCTION: Entry = (
+pub const IDENTITY_INDUCTION: KindRow = (
     "J",
     Sort::Term,
     &[TERM, TERM, TERM, TERM, TERM, TERM],
     Role::Former,
 );
 
-pub const UNIT_TYPE: Entry = ("unit", Sort::Term, &[], Role::Former);
+pub const UNIT_TYPE: KindRow = ("unit", Sort::Term, &[], Role::Former);
 
-pub const STAR: Entry = ("star", Sort::Term, &[], Role::Former);
+pub const STAR: KindRow = ("star", Sort::Term, &[], Role::Former);
 
-pub const EXTENSION: Entry = (
+pub const EXTENSION: KindRow = (
     "ext",
     Sort::Term,
     &[CUBE, T_TOPE, T_TERM, T_TOPE, T_TERM],
     Role::Former,
 );
 
-pub const EXTENSION_LAMBDA: Entry = (
+pub const EXTENSION_LAMBDA: KindRow = (
     "xlam",
     Sort::Term,
     &[CUBE, T_TOPE, T_TERM, T_TOPE, T_TERM, T_TERM],
     Role::Former,
 );
 
-pub const EXTENSION_APPLICATION: Entry = (
+pub const EXTENSION_APPLICATION: KindRow = (
     "xapp",
     Sort::Term,
     &[CUBE, T_TOPE, T_TERM, T_TOPE, T_TERM, TERM, POINT],
     Role::Former,
 );
 
-pub const REC_OR: Entry = (
+pub const REC_OR: KindRow = (
     "rec",
     Sort::Term,
     &[TERM, TOPE, TOPE, TERM, TERM],
     Role::Former,
 );
 
-pub const REC_BOTTOM: Entry = ("abort", Sort::Term, &[TERM], Role::Former);
+pub const REC_BOTTOM: KindRow = ("abort", Sort::Term, &[TERM], Role::Former);
 
-pub const EMPTY_CONTEXT: Entry = ("nil", Sort::Context, &[], Role::Former);
+pub const EMPTY_CONTEXT: KindRow = ("nil", Sort::Context, &[], Role::Former);
 
-pub const CUBE_ENTRY: Entry = ("xcube", Sort::Context, &[CONTEXT, CUBE], Role::Former);
+pub const CUBE_ENTRY: KindRow = ("xcube", Sort::Context, &[CONTEXT, CUBE], Role::Former);
 
-pub const TOPE_ENTRY: Entry = ("xtope", Sort::Context, &[CONTEXT, TOPE], Role::Former);
+pub const TOPE_ENTRY: KindRow = ("xtope", Sort::Context, &[CONTEXT, TOPE], Role::Former);
 
-pub const TERM_ENTRY: Entry = ("xterm", Sort::Context, &[CONTEXT, TERM], Role::Former);
+pub const TERM_ENTRY: KindRow = ("xterm", Sort::Context, &[CONTEXT, TERM], Role::Former);
 
 impl Kind {
     /// What a node of this kind is made of.
     pub fn form(self) -> Form
         ensures { IsForm (form self) result }
     {
-        let (word, sort, kids, role) = self.entry();
+        let (word, sort, kids, role) = self.row();
         Form {
             word,
             sort,
@@ -355,8 +355,8 @@ impl Kind {
     }
 
     /// The row of this kind in the node table.
-    fn entry(self) -> Entry
-        ensures { IsEntry (form self) result }
+    fn row(self) -> KindRow
+        ensures { IsKindRow (form self) result }
     {
         match self {
             Kind::CubeOne => CUBE_ONE,

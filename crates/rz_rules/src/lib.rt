@@ -10,7 +10,7 @@ mod names;
 mod nodes;
 mod rows;
 mod steps;
-mod symbols;
+pub mod symbols;
 mod verdicts;
 mod words;
 

@@ -77,6 +77,8 @@ pub enum Refusal {
     Clash(u64, u64),
     /// A limit was met.
     Limit(Limit),
+    /// What the declaration needs isn't judged yet by this program.
+    NotBuilt,
 }
 
 impl Refusal {
@@ -114,6 +116,7 @@ impl Refusal {
             Refusal::LooseRestriction => Refusal::LooseRestriction,
             Refusal::Clash(left, right) => Refusal::Clash(*left, *right),
             Refusal::Limit(limit) => Refusal::Limit(*limit),
+            Refusal::NotBuilt => Refusal::NotBuilt,
         })
     }
 }

@@ -1,7 +1,7 @@
-//! The laws are called. What the definitions say of terms is computed in `rz_reading/proofs/WorkedSteps.antt`,
+//! The laws are called. What the definitions say of terms is computed in `rz_reduction/proofs/WorkedSteps.antt`,
 //! `WorkedRuns.antt` and `WorkedComparisons.antt`.
 
-use rz_reading::laws::{asks, depth, one_tree, pieces, place, questions, runs, steps};
+use rz_reduction::laws::{asks, depth, one_tree, pieces, place, questions, runs, steps};
 
 #[test]
 fn laws() {

@@ -4,7 +4,7 @@ use Rattle.rz_rules.specs.declared.nodes.Node.{Node}
 use Rattle.rz_rules.specs.Tree.{Tree}
 use Rattle.rz_pool.specs.Pool.{Grows}
 use Rattle.rz_pool.proofs.Nodes.{length-Grows}
-use Rattle.rz_cube.proofs.ToldPoints.{same_trees}
+use Rattle.rz_cube.proofs.CachedPoints.{same_trees}
 use Rattle.rz_shape.specs.declared.variables.Variables.{Variables}
 use Rattle.rz_shape.specs.Answer.{AreThere, bindings_at}
 use Rattle.rz_shape.specs.Reading.{Bindings}

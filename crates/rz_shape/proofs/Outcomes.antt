@@ -8,11 +8,12 @@ use Rattle.rz_rules.specs.Tree.{At, And, Nil, tree_of, trees_of}
 use Rattle.rz_rules.specs.Cube.{cube_two, leaves, product}
 use Rattle.rz_pool.specs.Pool.{Grows, IsPool}
 use Rattle.rz_pool.proofs.Nodes.{length-Grows, KeepsTrees-Grows}
-use Rattle.rz_reading.specs.Same.{same_tree}
-use Rattle.rz_reading.proofs.Same.{same_tree-Decides}
+use Rattle.rz_rules.specs.Same.{same_tree}
+use Rattle.rz_rules.proofs.Same.{same_tree-Decides}
 use Rattle.rz_shape.specs.declared.steps.Outcome.{Outcome}
 use Rattle.rz_syntax.specs.declared.forms.Raw.{Raw}
-use Rattle.rz_shape.specs.Reading.{and_then, at_most, of_cube, pair, refusal, unless_wide}
+use Rattle.rz_shape.specs.Reading.{and_then, of_cube, pair, refusal, unless_wide}
+use Rattle.rz_rules.specs.Tope.{at_most}
 use Rattle.rz_shape.specs.Walk.{IsThere, alone, outcome_of}
 
 -- two tests that say the same are one

@@ -4,14 +4,15 @@ use Rattle.std.specs.Prelude.{Ok, Err, slice_get, if◌then◌else◌, nat_lt}
 use Rattle.rz_rules.specs.declared.verdicts.Refusal.TheVariants.{KindClash, WideCube, BadPoint}
 use Rattle.rz_rules.specs.Tree.{Tree}
 use Rattle.rz_rules.specs.Cube.{cube_two, product, leaves}
-use Rattle.rz_reading.specs.Same.{same_tree}
+use Rattle.rz_rules.specs.Same.{same_tree}
 use Rattle.rz_syntax.specs.declared.forms.Raw.{Raw}
 use Rattle.rz_syntax.specs.declared.forms.Form.{Form}
 use Rattle.rz_syntax.specs.declared.forms.Form.TheVariants as form
 use Rattle.rz_shape.specs.declared.steps.Target.{Target}
 use Rattle.rz_shape.specs.declared.steps.Target.TheVariants.{Cube, Point, Tope}
 use Rattle.rz_shape.specs.declared.steps.Join.TheVariants.{Product, SamePoint, AtMost}
-use Rattle.rz_shape.specs.Reading.{Reading, Bindings, PlacedPoint, and_then, refusal, unless_wide, cube_of_form, cube_reading, point_of_form, point_reading, tope_of_form, tope_reading, of_cube, point_of_cube, both, same_points, equal_points, at_most, conjunction, disjunction}
+use Rattle.rz_shape.specs.Reading.{Reading, Bindings, PlacedPoint, and_then, refusal, unless_wide, cube_of_form, cube_reading, point_of_form, point_reading, tope_of_form, tope_reading, of_cube, point_of_cube, both, same_points}
+use Rattle.rz_rules.specs.Tope.{equal_points, at_most, conjunction, disjunction}
 use Rattle.rz_shape.specs.Walk.{alone, join_reading, left_reading, path_of, plan_of, cube_plan, point_plan, tope_plan, plan_reading, reading_of}
 
 abbrev with_alone : Reading Tree → Reading PlacedPoint

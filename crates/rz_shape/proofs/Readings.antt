@@ -8,13 +8,13 @@ use Rattle.rz_rules.specs.declared.coordinates.TheConstants.{LEFT, RIGHT}
 use Rattle.rz_rules.specs.declared.verdicts.Refusal.TheVariants.{BadPoint, WideCube}
 use Rattle.rz_rules.specs.Tree.{Tree, At, Nil, And, sort_of}
 use Rattle.rz_rules.specs.Cube.{cube_two, product, left_part, right_part, leaves}
-use Rattle.rz_rules.specs.Tope.{IsPointOf, IsTopeOver, cube_of}
-use Rattle.rz_reading.specs.Same.{same_tree}
-use Rattle.rz_reading.proofs.Same.{same_tree-Decides}
+use Rattle.rz_rules.specs.Tope.{IsPointOf, IsTopeOver, cube_of, equal_points, conjunction, disjunction, at_most}
+use Rattle.rz_rules.specs.Same.{same_tree}
+use Rattle.rz_rules.proofs.Same.{same_tree-Decides}
 use Rattle.rz_syntax.specs.declared.forms.Raw.{Raw}
 use Rattle.rz_syntax.specs.declared.forms.Form.{Form}
 use Rattle.rz_syntax.specs.declared.forms.Form.TheVariants as form
-use Rattle.rz_shape.specs.Reading.{Reading, Bindings, PlacedPoint, and_then, refusal, unless_wide, projection, variable_of_cube, cube_of_form, cube_reading, point_of_form, point_reading, tope_of_form, tope_reading, first_part, second_part, part_along, variable_in, of_cube, point_of_cube, pair, both, equal_points, conjunction, disjunction, at_most}
+use Rattle.rz_shape.specs.Reading.{Reading, Bindings, PlacedPoint, and_then, refusal, unless_wide, projection, variable_of_cube, cube_of_form, cube_reading, point_of_form, point_reading, tope_of_form, tope_reading, first_part, second_part, part_along, variable_in, of_cube, point_of_cube, pair, both}
 
 -- what holds of what is read, if anything is
 abbrev pub IfRead : {T : Type 0} → (T → Type 0) → Reading T → Type 0

@@ -6,7 +6,7 @@ use Rattle.rz_rules.specs.declared.verdicts.Refusal.TheVariants.{BadPoint}
 use Rattle.rz_rules.specs.Tree.{tree_of}
 use Rattle.rz_pool.specs.Pool.{Grows}
 use Rattle.rz_pool.proofs.Nodes.{KeepsTrees-Grows}
-use Rattle.rz_reading.specs.Same.{same_tree}
+use Rattle.rz_rules.specs.Same.{same_tree}
 use Rattle.rz_syntax.specs.declared.forms.Raw.{Raw}
 use Rattle.rz_syntax.specs.declared.forms.Form.{Form}
 use Rattle.rz_shape.specs.declared.steps.Outcome.{Outcome}

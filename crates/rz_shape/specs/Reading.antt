@@ -5,8 +5,9 @@ use Rattle.rz_rules.specs.declared.coordinates.TheConstants.{LEFT, RIGHT}
 use Rattle.rz_rules.specs.declared.verdicts.Refusal.{Refusal}
 use Rattle.rz_rules.specs.declared.verdicts.Refusal.TheVariants.{KindClash, WideCube, BadPoint}
 use Rattle.rz_rules.specs.Tree.{Tree, At, Nil, And}
+use Rattle.rz_rules.specs.Tope.{at_most, bottom, conjunction, disjunction, equal_points, point_variable, top}
 use Rattle.rz_rules.specs.Cube.{cube_one, cube_two, product, left_part, right_part, leaves, cubes_of}
-use Rattle.rz_reading.specs.Same.{same_tree}
+use Rattle.rz_rules.specs.Same.{same_tree}
 use Rattle.rz_syntax.specs.declared.forms.Raw.{Raw}
 use Rattle.rz_syntax.specs.declared.forms.Form.{Form}
 use Rattle.rz_syntax.specs.declared.forms.Form.TheVariants as form
@@ -78,9 +79,6 @@ pub record PlacedPoint : Type 0 where
   pub point : Tree
   pub cube : Tree
 
-abbrev pub variable : ℕ → Tree
-variable index = At kind.PointVariable index [] Nil
-
 abbrev pub only_point : PlacedPoint
 only_point = record { point = At kind.OnlyPoint 0 [] Nil; cube = cube_one }
 
@@ -116,7 +114,7 @@ part_along raw (letter ∷ path) s =
 
 -- a variable as a point of its cube, where the context has an entry for it
 abbrev pub variable_of_cube : Raw → ℕ → Option Tree → Reading PlacedPoint
-variable_of_cube raw index (Some cube) = Ok (record { point = variable index; cube = cube })
+variable_of_cube raw index (Some cube) = Ok (record { point = point_variable index; cube = cube })
 variable_of_cube raw index None = refusal KindClash raw
 
 -- what a binder binds as a point; a term is none
@@ -152,24 +150,6 @@ abbrev pub point_of_cube : Bindings → List Form → ℕ → Tree → Raw → R
 point_of_cube bound forms depth cube raw = and_then (point_reading bound forms depth raw) (of_cube raw cube)
 
 -- ---- topes
-
-abbrev pub top : Tree
-top = At kind.Top 0 [] Nil
-
-abbrev pub bottom : Tree
-bottom = At kind.Bottom 0 [] Nil
-
-abbrev pub conjunction : Tree → Tree → Tree
-conjunction p q = At kind.Conjunction 0 [] (And p (And q Nil))
-
-abbrev pub disjunction : Tree → Tree → Tree
-disjunction p q = At kind.Disjunction 0 [] (And p (And q Nil))
-
-abbrev pub equal_points : Tree → Tree → Tree → Tree
-equal_points cube s u = At kind.EqualPoints 0 [] (And cube (And s (And u Nil)))
-
-abbrev pub at_most : Tree → Tree → Tree
-at_most s u = At kind.AtMost 0 [] (And s (And u Nil))
 
 -- two topes, the left one first
 abbrev pub both : Reading Tree → Reading Tree → (Tree → Tree → Tree) → Reading Tree

@@ -5,7 +5,7 @@ use Rattle.rz_rules.specs.declared.nodes.Node.{Node}
 use Rattle.rz_rules.specs.declared.verdicts.Refusal.TheVariants.{KindClash, BadPoint}
 use Rattle.rz_rules.specs.Tree.{Tree, tree_of}
 use Rattle.rz_rules.specs.Cube.{cube_one, cube_two, product}
-use Rattle.rz_reading.specs.Same.{same_tree}
+use Rattle.rz_rules.specs.Same.{same_tree}
 use Rattle.rz_syntax.specs.declared.forms.Raw.{Raw}
 use Rattle.rz_syntax.specs.declared.forms.Form.{Form}
 use Rattle.rz_syntax.specs.declared.forms.Form.TheVariants as form
@@ -22,7 +22,8 @@ use Rattle.rz_shape.specs.declared.steps.Frame.{Frame}
 use Rattle.rz_shape.specs.declared.steps.Frame.TheVariants.{Left, Right, First, Second}
 use Rattle.rz_shape.specs.declared.steps.Step.{Step}
 use Rattle.rz_shape.specs.declared.steps.Step.TheVariants.{Done, Under}
-use Rattle.rz_shape.specs.Reading.{Reading, Bindings, PlacedPoint, and_then, refusal, unless_wide, cube_reading, point_reading, tope_reading, only_point, zero_end, one_end, pair, variable_in, part_along, first_part, second_part, of_cube, top, bottom, conjunction, disjunction, equal_points, at_most}
+use Rattle.rz_shape.specs.Reading.{Reading, Bindings, PlacedPoint, and_then, refusal, unless_wide, cube_reading, point_reading, tope_reading, only_point, zero_end, one_end, pair, variable_in, part_along, first_part, second_part, of_cube}
+use Rattle.rz_rules.specs.Tope.{top, bottom, conjunction, disjunction, equal_points, at_most}
 
 -- ---- readings of all sorts
 

@@ -9,13 +9,11 @@ ghost use Rattle.rz_shape.specs.Reading.{and_then, first_part, part_along, secon
 ghost use Rattle.rz_shape.specs.Walk.{IsOutcome, IsThere, half_reading, outcome_of};
 
 use crate::fault::ShapeFault;
-use crate::nodes::{make_node, parts_of};
 use crate::steps::Outcome;
 use crate::variables::Variables;
-use rz_pool::Pool;
+use rz_pool::{Pool, parts_of};
 use rz_rules::{Kids, Kind, LEFT, OutOfMemory, RIGHT, Refusal};
 use rz_syntax::Raw;
-use std::alloc::Global;
 
 /// A refusal at a form's first token.
 pub(crate) fn refuse(why: Refusal, raw: Raw) -> ShapeFault
@@ -26,7 +24,6 @@ pub(crate) fn refuse(why: Refusal, raw: Raw) -> ShapeFault
 
 /// A point of a cube.
 pub(crate) fn make_point(
-    alloc: Global,
     pool: &mut Pool,
     kind: Kind,
     number: u64,
@@ -40,17 +37,12 @@ pub(crate) fn make_point(
     }))) }
     ensures grows { Grows pool.old.nodes pool.new.nodes }
 {
-    let node = make_node(alloc, pool, kind, number, kids)?;
+    let node = pool.make_unnamed(kind, number, kids)?;
     Ok(Outcome { node, cube })
 }
 
 /// The left part of a point. A point of no product is refused at its form.
-pub(crate) fn first_part(
-    alloc: Global,
-    pool: &mut Pool,
-    raw: Raw,
-    point: Outcome,
-) -> Result<Outcome, ShapeFault>
+pub(crate) fn first_part(pool: &mut Pool, raw: Raw, point: Outcome) -> Result<Outcome, ShapeFault>
     requires { IsThere pool.old.nodes point }
     ensures read { IfOk result (IsOutcome pool.new.nodes
         (first_part raw (outcome_of pool.old.nodes point))) }
@@ -61,16 +53,11 @@ pub(crate) fn first_part(
         return Err(refuse(Refusal::BadPoint, raw));
     };
     let kids = Kids::from_slice(&[point.node]);
-    Ok(make_point(alloc, pool, Kind::PointLeft, 0, kids, left)?)
+    Ok(make_point(pool, Kind::PointLeft, 0, kids, left)?)
 }
 
 /// The right part of a point. A point of no product is refused at its form.
-pub(crate) fn second_part(
-    alloc: Global,
-    pool: &mut Pool,
-    raw: Raw,
-    point: Outcome,
-) -> Result<Outcome, ShapeFault>
+pub(crate) fn second_part(pool: &mut Pool, raw: Raw, point: Outcome) -> Result<Outcome, ShapeFault>
     requires { IsThere pool.old.nodes point }
     ensures read { IfOk result (IsOutcome pool.new.nodes
         (second_part raw (outcome_of pool.old.nodes point))) }
@@ -81,17 +68,11 @@ pub(crate) fn second_part(
         return Err(refuse(Refusal::BadPoint, raw));
     };
     let kids = Kids::from_slice(&[point.node]);
-    Ok(make_point(alloc, pool, Kind::PointRight, 0, kids, right)?)
+    Ok(make_point(pool, Kind::PointRight, 0, kids, right)?)
 }
 
 /// The part of a point that a letter of a path names.
-fn part_at(
-    alloc: Global,
-    pool: &mut Pool,
-    letter: u8,
-    raw: Raw,
-    point: Outcome,
-) -> Result<Outcome, ShapeFault>
+fn part_at(pool: &mut Pool, letter: u8, raw: Raw, point: Outcome) -> Result<Outcome, ShapeFault>
     requires { IsThere pool.old.nodes point }
     ensures read { IfOk result (IsOutcome pool.new.nodes
         (half_reading letter raw (outcome_of pool.old.nodes point))) }
@@ -100,9 +81,9 @@ fn part_at(
     ensures grows { Grows pool.old.nodes pool.new.nodes }
 {
     if letter == LEFT {
-        first_part(alloc, pool, raw, point)
+        first_part(pool, raw, point)
     } else if letter == RIGHT {
-        second_part(alloc, pool, raw, point)
+        second_part(pool, raw, point)
     } else {
         Err(refuse(Refusal::BadPoint, raw))
     }
@@ -110,7 +91,6 @@ fn part_at(
 
 /// The part of a point at the end of a path.
 pub(crate) fn part_along(
-    alloc: Global,
     pool: &mut Pool,
     path: &[u8],
     raw: Raw,
@@ -125,7 +105,7 @@ pub(crate) fn part_along(
 {
     let mut part = point;
     for letter in path {
-        part = part_at(alloc, pool, *letter, raw, part)?;
+        part = part_at(pool, *letter, raw, part)?;
     }
     Ok(part)
 }
@@ -146,7 +126,6 @@ fn variable_index(names: &Variables, up: u64) -> Option<u64>
 
 /// The point that the variable of a binder so many binders up is.
 pub(crate) fn variable(
-    alloc: Global,
     pool: &mut Pool,
     names: &Variables,
     up: u64,
@@ -167,12 +146,11 @@ pub(crate) fn variable(
     let Some(cube) = item(names.cubes.as_slice(), index) else {
         return Err(refuse(Refusal::KindClash, raw));
     };
-    Ok(make_point(alloc, pool, Kind::PointVariable, index, Kids::new(), cube)?)
+    Ok(make_point(pool, Kind::PointVariable, index, Kids::new(), cube)?)
 }
 
 /// The point that a bound name is: the part at the end of its path of a binder's variable.
 pub(crate) fn named_point(
-    alloc: Global,
     pool: &mut Pool,
     names: &Variables,
     up: u64,
@@ -188,6 +166,6 @@ pub(crate) fn named_point(
         (slice_get names.now.variables.items up)) (part_along raw path.now))) }
     ensures grows { Grows pool.old.nodes pool.new.nodes }
 {
-    let point = variable(alloc, pool, names, up, raw)?;
-    part_along(alloc, pool, path, raw, point)
+    let point = variable(pool, names, up, raw)?;
+    part_along(pool, path, raw, point)
 }

@@ -31,7 +31,6 @@ fn target_of(join: Join) -> Target
 
 /// The first step of a part.
 pub(crate) fn visit(
-    alloc: Global,
     pool: &mut Pool,
     names: &Variables,
     forms: &[Form],
@@ -52,20 +51,11 @@ pub(crate) fn visit(
         return Err(refuse(Refusal::KindClash, part.raw));
     };
     let plan = plan(part.target, form);
-    follow(
-        alloc,
-        pool,
-        names,
-        path(form),
-        part.raw,
-        part.depth - 1,
-        plan,
-    )
+    follow(pool, names, path(form), part.raw, part.depth - 1, plan)
 }
 
 /// The first step of a form that asks for this, whose parts may stand so deep.
 fn follow(
-    alloc: Global,
     pool: &mut Pool,
     names: &Variables,
     path: &[u8],
@@ -83,8 +73,8 @@ fn follow(
     ensures grows { Grows pool.old.nodes pool.new.nodes }
 {
     match plan {
-        Plan::Leaf(leaf) => Ok(Step::Done(make_leaf(alloc, pool, leaf)?)),
-        Plan::Variable(up) => Ok(Step::Done(named_point(alloc, pool, names, up, path, raw)?)),
+        Plan::Leaf(leaf) => Ok(Step::Done(make_leaf(pool, leaf)?)),
+        Plan::Variable(up) => Ok(Step::Done(named_point(pool, names, up, path, raw)?)),
         Plan::First(arg) => Ok(under(Frame::First { arg }, Target::Point, arg, depth)),
         Plan::Second(arg) => Ok(under(Frame::Second { arg }, Target::Point, arg, depth)),
         Plan::Two { join, left, right } => {
@@ -134,7 +124,7 @@ pub(crate) fn resume(
             right,
             depth,
         } => {
-            enter(alloc, pool, join, left, read)?;
+            enter(pool, join, left, read)?;
             let next = Frame::Right {
                 join,
                 whole,
@@ -149,7 +139,7 @@ pub(crate) fn resume(
             right,
             left,
         } => Ok(Step::Done(join_parts(alloc, pool, join, whole, right, left, read)?)),
-        Frame::First { arg } => Ok(Step::Done(first_part(alloc, pool, arg, read)?)),
-        Frame::Second { arg } => Ok(Step::Done(second_part(alloc, pool, arg, read)?)),
+        Frame::First { arg } => Ok(Step::Done(first_part(pool, arg, read)?)),
+        Frame::Second { arg } => Ok(Step::Done(second_part(pool, arg, read)?)),
     }
 }

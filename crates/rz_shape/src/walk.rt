@@ -40,7 +40,7 @@ pub(crate) fn read(
     ensures grows { Grows pool.old.nodes pool.new.nodes }
 {
     let mut frames = Vec::new(alloc);
-    let mut step = visit(alloc, pool, names, forms, part)?;
+    let mut step = visit(pool, names, forms, part)?;
     loop {
         step = match step {
             Step::Done(outcome) => match frames.pop() {
@@ -49,7 +49,7 @@ pub(crate) fn read(
             },
             Step::Under { frame, part } => {
                 frames.push(frame)?;
-                visit(alloc, pool, names, forms, part)?
+                visit(pool, names, forms, part)?
             }
         };
     }

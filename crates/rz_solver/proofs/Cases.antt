@@ -12,12 +12,12 @@ use Rattle.rz_pool.proofs.Nodes.{Grows-trans}
 use Rattle.rz_log.specs.declared.world.World.{World}
 use Rattle.rz_log.specs.World.{Grows, IsSound, Says, statements_in}
 use Rattle.rz_log.proofs.Worlds.{says_grown}
-use Rattle.rz_proof.specs.declared.proof.Inference.{Inference}
-use Rattle.rz_proof.specs.declared.proof.Reason.{Reason}
-use Rattle.rz_proof.specs.declared.proof.Reason.TheVariants as reason
-use Rattle.rz_proof.specs.Claim.{tope_of}
-use Rattle.rz_proof.specs.Proving.{Infers, IsInference, Proves}
-use Rattle.rz_proof.specs.Topes.{disjunction}
+use Rattle.rz_tope_proof.specs.declared.proof.Inference.{Inference}
+use Rattle.rz_tope_proof.specs.declared.proof.Reason.{Reason}
+use Rattle.rz_tope_proof.specs.declared.proof.Reason.TheVariants as reason
+use Rattle.rz_tope_proof.specs.Claim.{tope_of}
+use Rattle.rz_tope_proof.specs.Proving.{Infers, IsInference, Proves}
+use Rattle.rz_rules.specs.Tope.{disjunction}
 use Rattle.rz_solver.specs.declared.writing.Place.{Place}
 use Rattle.rz_solver.specs.Writing.{Setting, IsJob, IsPlace, IsProved, IsSaid, IsSide, context_under, inference_at, tope_said}
 use Rattle.rz_solver.proofs.Following.{cases_spelled, infers_applies, premises_under}

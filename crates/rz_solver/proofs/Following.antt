@@ -15,10 +15,9 @@ use Rattle.rz_rules.specs.Judgment.{Statement}
 use Rattle.rz_rules.specs.Row.{Assignment, HasLetter, letters_in, spelled}
 use Rattle.rz_rules.specs.Structural.{formed, holds}
 use Rattle.rz_rules.specs.Table.{rule_of}
-use Rattle.rz_rules.specs.Tope.{IsTopeOver}
-use Rattle.rz_laws.proofs.Values.{former_label}
-use Rattle.rz_proof.specs.Proving.{Infers, TopHolds, FromBottom, Both, FirstPart, SecondPart, FirstSide, SecondSide, Reflexive, Symmetric, Transitive, LeftOfPair, RightOfPair, PairOfParts, OnlyPoint, Pairs, Lefts, Rights, OfEqual, Through, BothWays, Total, Least, Greatest, Apart}
-use Rattle.rz_proof.specs.Topes.{at_most, conjunction, disjunction, equal, left, one_end, pair, right, zero_end}
+use Rattle.rz_rules.specs.Tope.{IsTopeOver, at_most, conjunction, disjunction, equal_points, left, one_end, pair, right, zero_end}
+use Rattle.rz_metatheory.proofs.Values.{former_label}
+use Rattle.rz_tope_proof.specs.Proving.{Infers, TopHolds, FromBottom, Both, FirstPart, SecondPart, FirstSide, SecondSide, Reflexive, Symmetric, Transitive, LeftOfPair, RightOfPair, PairOfParts, OnlyPoint, Pairs, Lefts, Rights, OfEqual, Through, BothWays, Total, Least, Greatest, Apart}
 
 -- the trees of kids
 first_kid : (of : Sort) (sorts : List Sort) (t : Tree) (ts : Trees) → AreTrees (of ∷ sorts) (And t ts) → IsTree of t
@@ -65,7 +64,7 @@ projected_left s is = first_kid sort.Point [] s Nil is.2
 projected_right : (s : Tree) → IsTree sort.Point (right s) → IsTree sort.Point s
 projected_right s is = first_kid sort.Point [] s Nil is.2
 
-module _ (cube s u : Tree) (is : IsTree sort.Tope (equal cube s u)) where
+module _ (cube s u : Tree) (is : IsTree sort.Tope (equal_points cube s u)) where
   others : AreTrees (sort.Point ∷ sort.Point ∷ []) (And s (And u Nil))
   others = other_kids sort.Cube (sort.Point ∷ sort.Point ∷ []) cube (And s (And u Nil)) is.2
 
@@ -156,7 +155,7 @@ module _ (context : Tree) (c : IsTree sort.Context context) where
   infers_spelled by ps t (Transitive {cube = cube} {s = s} {u = u} {w = w}) are is =
       let is_i = equated_cube cube s w is in
       let is_s = equated_left cube s w is in
-      let is_t = equated_right cube s u (All-head (IsTree sort.Tope) (equal cube s u) (equal cube u w ∷ []) are) in
+      let is_t = equated_right cube s u (All-head (IsTree sort.Tope) (equal_points cube s u) (equal_points cube u w ∷ []) are) in
       let is_w = equated_right cube s w is in
       spelling row.EqualTransitive (points cube blank s blank u blank w) (All-from_recursion (HasLetter (points cube blank s blank u blank w)) (letters_in (rule_of row.EqualTransitive).text) (c, (is_i, (is_s, (is_t, (c, (is_i, (is_t, (is_w, (c, (is_i, (is_s, (is_w, tt))))))))))))) refl (no_conditions (points cube blank s blank u blank w))
   infers_spelled by ps t (LeftOfPair {cube = cube} {s = s} {u = u}) are is =
@@ -191,18 +190,18 @@ module _ (context : Tree) (c : IsTree sort.Context context) where
       let is_t1 = second.1 in
       spelling row.EqualPair (points one other s v u w blank) (All-from_recursion (HasLetter (points one other s v u w blank)) (letters_in (rule_of row.EqualPair).text) (c, (is_i, (is_s, (is_s1, (c, (is_k, (is_t, (is_t1, (c, (is_i, (is_k, (is_s, (is_t, (is_s1, (is_t1, tt)))))))))))))))) refl (no_conditions (points one other s v u w blank))
   infers_spelled by ps t (Lefts {one = one} {other = other} {s = s} {u = u}) are is =
-      let both = factors one other (equated_cube (product one other) s u (All-head (IsTree sort.Tope) (equal (product one other) s u) [] are)) in
+      let both = factors one other (equated_cube (product one other) s u (All-head (IsTree sort.Tope) (equal_points (product one other) s u) [] are)) in
       let is_i = both.0 in
       let is_k = both.1 in
-      let is_s = equated_left (product one other) s u (All-head (IsTree sort.Tope) (equal (product one other) s u) [] are) in
-      let is_t = equated_right (product one other) s u (All-head (IsTree sort.Tope) (equal (product one other) s u) [] are) in
+      let is_s = equated_left (product one other) s u (All-head (IsTree sort.Tope) (equal_points (product one other) s u) [] are) in
+      let is_t = equated_right (product one other) s u (All-head (IsTree sort.Tope) (equal_points (product one other) s u) [] are) in
       spelling row.EqualLeft (points one other s blank u blank blank) (All-from_recursion (HasLetter (points one other s blank u blank blank)) (letters_in (rule_of row.EqualLeft).text) (c, (is_i, (is_k, (is_s, (is_t, (c, (is_i, (is_s, (is_t, tt)))))))))) refl (no_conditions (points one other s blank u blank blank))
   infers_spelled by ps t (Rights {one = one} {other = other} {s = s} {u = u}) are is =
-      let both = factors one other (equated_cube (product one other) s u (All-head (IsTree sort.Tope) (equal (product one other) s u) [] are)) in
+      let both = factors one other (equated_cube (product one other) s u (All-head (IsTree sort.Tope) (equal_points (product one other) s u) [] are)) in
       let is_i = both.0 in
       let is_k = both.1 in
-      let is_s = equated_left (product one other) s u (All-head (IsTree sort.Tope) (equal (product one other) s u) [] are) in
-      let is_t = equated_right (product one other) s u (All-head (IsTree sort.Tope) (equal (product one other) s u) [] are) in
+      let is_s = equated_left (product one other) s u (All-head (IsTree sort.Tope) (equal_points (product one other) s u) [] are) in
+      let is_t = equated_right (product one other) s u (All-head (IsTree sort.Tope) (equal_points (product one other) s u) [] are) in
       spelling row.EqualRight (points one other s blank u blank blank) (All-from_recursion (HasLetter (points one other s blank u blank blank)) (letters_in (rule_of row.EqualRight).text) (c, (is_i, (is_k, (is_s, (is_t, (c, (is_k, (is_s, (is_t, tt)))))))))) refl (no_conditions (points one other s blank u blank blank))
   infers_spelled by ps t (OfEqual {s = s} {u = u}) are is =
       let both = compared s u is in

@@ -10,14 +10,13 @@ use Rattle.rz_rules.specs.declared.nodes.Node.{Node}
 use Rattle.rz_rules.specs.Form.{form, kid_sorts}
 use Rattle.rz_rules.specs.Tree.{Tree, At, Nil, And, HasForm, IsTree, sort_of, tree_of, trees_in}
 use Rattle.rz_rules.specs.Cube.{Binders, binders_of, cube_two, cubes_of}
-use Rattle.rz_rules.specs.Tope.{IsPointOf, IsTopeOver}
+use Rattle.rz_rules.specs.Tope.{IsPointOf, IsTopeOver, at_most}
 use Rattle.rz_pool.specs.Pool.{IsPool}
 use Rattle.rz_pool.proofs.WellFormed.{tree_of-is}
-use Rattle.rz_proof.specs.declared.proof.Claim.{Claim}
-use Rattle.rz_proof.specs.declared.proof.Claim.TheVariants as claim
-use Rattle.rz_proof.specs.Claim.{IsClaim, tope_of}
-use Rattle.rz_proof.specs.Topes.{at_most}
-use Rattle.rz_laws.proofs.Values.{AreCubes, AreCubes-front, cube_of_is, former_label}
+use Rattle.rz_tope_proof.specs.declared.proof.Claim.{Claim}
+use Rattle.rz_tope_proof.specs.declared.proof.Claim.TheVariants as claim
+use Rattle.rz_tope_proof.specs.Claim.{IsClaim, tope_of}
+use Rattle.rz_metatheory.proofs.Values.{AreCubes, AreCubes-front, cube_of_is, former_label}
 
 -- what is a tope over something is of the sort of topes, and what has a cube of that of points
 pub over_sort : (binders : Binders) (t : Tree) → IsTopeOver binders t → sort_of t ≡ sort.Tope

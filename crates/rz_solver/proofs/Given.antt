@@ -12,7 +12,7 @@ use Rattle.rz_rules.proofs.Substitution.{weakened-none}
 use Rattle.rz_log.specs.declared.world.World.{World}
 use Rattle.rz_log.specs.World.{Says}
 use Rattle.rz_lemmas.specs.Moves.{HasTope, hypothesis_of}
-use Rattle.rz_proof.specs.Proving.{IsGiven}
+use Rattle.rz_tope_proof.specs.Proving.{IsGiven}
 use Rattle.rz_solver.specs.Writing.{Setting, context_under, tope_said}
 
 -- the entries of assumptions

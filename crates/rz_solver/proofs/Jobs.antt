@@ -15,9 +15,9 @@ use Rattle.rz_pool.proofs.Nodes.{Grows-trans, KeepsTrees-Grows, length-Grows}
 use Rattle.rz_log.specs.declared.world.World.{World}
 use Rattle.rz_log.specs.World.{Grows, IsSound, statements_in}
 use Rattle.rz_log.proofs.Worlds.{says_grown}
-use Rattle.rz_proof.specs.declared.proof.Inference.{Inference}
-use Rattle.rz_proof.specs.declared.proof.Reason.TheVariants as reason
-use Rattle.rz_proof.specs.Claim.{IsClaim, tope_of}
+use Rattle.rz_tope_proof.specs.declared.proof.Inference.{Inference}
+use Rattle.rz_tope_proof.specs.declared.proof.Reason.TheVariants as reason
+use Rattle.rz_tope_proof.specs.Claim.{IsClaim, tope_of}
 use Rattle.rz_solver.specs.declared.writing.Place.{Place}
 use Rattle.rz_solver.specs.Writing.{Setting, IsJob, IsPlace, IsSide, context_under, inference_at, tope_said}
 use Rattle.rz_solver.proofs.Following.{holds_follows}

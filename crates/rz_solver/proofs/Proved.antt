@@ -6,14 +6,14 @@ use Rattle.rz_rules.specs.declared.nodes.Node.{Node}
 use Rattle.rz_rules.specs.Tree.{Tree, tree_of}
 use Rattle.rz_pool.specs.Pool.{Grows}
 use Rattle.rz_pool.proofs.Nodes.{KeepsTrees-Grows}
-use Rattle.rz_proof.specs.declared.proof.Claim.{Claim}
-use Rattle.rz_proof.specs.declared.proof.Claim.TheVariants as claim
-use Rattle.rz_proof.specs.declared.proof.Inference.{Inference}
-use Rattle.rz_proof.specs.declared.proof.Reason.{Reason}
-use Rattle.rz_proof.specs.declared.proof.Reason.TheVariants as reason
-use Rattle.rz_proof.specs.Claim.{IsClaim, ids_of, tope_of}
-use Rattle.rz_proof.specs.Proving.{Infers, IsGiven, IsInference, Proves, ByHypothesis, ByAssumption, ByAxiom, ByOne, ByTwo, ByCases}
-use Rattle.rz_proof.specs.Topes.{at_most, disjunction, equal}
+use Rattle.rz_tope_proof.specs.declared.proof.Claim.{Claim}
+use Rattle.rz_tope_proof.specs.declared.proof.Claim.TheVariants as claim
+use Rattle.rz_tope_proof.specs.declared.proof.Inference.{Inference}
+use Rattle.rz_tope_proof.specs.declared.proof.Reason.{Reason}
+use Rattle.rz_tope_proof.specs.declared.proof.Reason.TheVariants as reason
+use Rattle.rz_tope_proof.specs.Claim.{IsClaim, ids_of, tope_of}
+use Rattle.rz_tope_proof.specs.Proving.{Infers, IsGiven, IsInference, Proves, ByHypothesis, ByAssumption, ByAxiom, ByOne, ByTwo, ByCases}
+use Rattle.rz_rules.specs.Tope.{at_most, disjunction, equal_points}
 use Rattle.rz_solver.specs.Writing.{Setting, IsProved, inference_at, tope_said}
 
 -- an item that is there
@@ -113,4 +113,4 @@ module _ (old new : List Node) (grows : Grows old new) where
       λ i. disjunction (at_most (kept s (live 0 0 (omega arith)) i) (kept u (live 1 0 (omega arith)) i))
       (at_most (kept u (live 1 0 (omega arith)) i) (kept s (live 0 0 (omega arith)) i))
   tope_grown (claim.Equal cube s u) live =
-      λ i. equal (kept cube (live 0 0 (omega arith)) i) (kept s (live 1 0 (omega arith)) i) (kept u (live 2 0 (omega arith)) i)
+      λ i. equal_points (kept cube (live 0 0 (omega arith)) i) (kept s (live 1 0 (omega arith)) i) (kept u (live 2 0 (omega arith)) i)

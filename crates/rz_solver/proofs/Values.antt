@@ -7,12 +7,12 @@ use Rattle.std.proofs.lemmas.List.Elements.{All-nil, All-cons}
 use Rattle.std.proofs.lemmas.Option.{slice_get_within}
 use Rattle.rz_rules.specs.declared.coordinates.Coord.{Coord}
 use Rattle.rz_rules.specs.Validity.{IsRankList}
-use Rattle.rz_proof.specs.declared.parts.Part.{Part}
-use Rattle.rz_proof.specs.Order.{IsOrder, Order, rank}
-use Rattle.rz_proof.specs.Part.{AreParts, AreValues, value_over}
-use Rattle.rz_proof.specs.Ranks.{ranks_from}
-use Rattle.rz_search.proofs.PartStatuses.{says-next, value_over-reads}
-use Rattle.rz_search.proofs.RankOrders.{rank-small}
+use Rattle.rz_tope_proof.specs.declared.parts.Part.{Part}
+use Rattle.rz_tope_proof.specs.Order.{IsOrder, Order, rank}
+use Rattle.rz_tope_proof.specs.Part.{AreParts, AreValues, value_over}
+use Rattle.rz_tope_proof.specs.Ranks.{ranks_from}
+use Rattle.rz_tope_search.proofs.PartStatuses.{says-next, value_over-reads}
+use Rattle.rz_tope_search.proofs.RankOrders.{rank-small}
 
 -- whether the part with a number is true, by a list
 abbrev is_true_in : List Bool → ℕ → Bool

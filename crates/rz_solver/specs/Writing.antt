@@ -6,11 +6,11 @@ use Rattle.rz_rules.specs.Tree.{Tree, tree_of}
 use Rattle.rz_rules.specs.Context.{OfTope, with_entries}
 use Rattle.rz_rules.specs.Structural.{formed, holds}
 use Rattle.rz_pool.specs.Pool as pool
-use Rattle.rz_proof.specs.declared.proof.Claim.TheVariants as claim
-use Rattle.rz_proof.specs.declared.proof.Inference.{Inference}
-use Rattle.rz_proof.specs.declared.proof.Reason.TheVariants as reason
-use Rattle.rz_proof.specs.Claim.{tope_of}
-use Rattle.rz_proof.specs.Proving.{IsInference, Proves}
+use Rattle.rz_tope_proof.specs.declared.proof.Claim.TheVariants as claim
+use Rattle.rz_tope_proof.specs.declared.proof.Inference.{Inference}
+use Rattle.rz_tope_proof.specs.declared.proof.Reason.TheVariants as reason
+use Rattle.rz_tope_proof.specs.Claim.{tope_of}
+use Rattle.rz_tope_proof.specs.Proving.{IsInference, Proves}
 use Rattle.rz_log.specs.declared.world.World.{World}
 use Rattle.rz_log.specs.World.{IsSound, Says}
 use Rattle.rz_solver.specs.declared.writing.Place.{Place}

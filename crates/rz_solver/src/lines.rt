@@ -5,13 +5,13 @@ ghost use Rattle.rz_rules.specs.declared.kinds.Sort.TheVariants.{Context};
 ghost use Rattle.rz_rules.specs.Derivation.{Follows};
 ghost use Rattle.rz_rules.specs.Structural.{holds};
 ghost use Rattle.rz_rules.specs.Tree.{IsTree, Tree, tree_of};
-ghost use Rattle.rz_proof.specs.Claim.{IsClaim, tope_of};
+ghost use Rattle.rz_tope_proof.specs.Claim.{IsClaim, tope_of};
 ghost use Rattle.rz_log.specs.World.{Grows, IsSound, Says, statements_in};
 
 use crate::topes::tope;
 use rz_log::World;
-use rz_proof::Claim;
 use rz_rules::{Judgment, Line, Numbers, OutOfMemory, Row};
+use rz_tope_proof::Claim;
 use std::alloc::Global;
 
 /// A step that says that a tope holds in a context, by a row from these steps.

@@ -8,22 +8,22 @@ ghost use Rattle.rz_rules.specs.Tree.{Tree, tree_of};
 ghost use Rattle.rz_rules.specs.Validity.{occurring};
 ghost use Rattle.rz_pool.specs.Pool.{IsPool};
 ghost use Rattle.rz_pool.specs.Pool as pool_is;
-ghost use Rattle.rz_laws.specs.SmallOrders.{IsSequent};
+ghost use Rattle.rz_metatheory.specs.SmallOrders.{IsSequent};
 ghost use Rattle.rz_log.specs.Entail.{IsEntailed};
 ghost use Rattle.rz_log.specs.World.{Grows, IsSound, Says, context_at};
 ghost use Rattle.rz_log.specs.declared.world.World.{World};
 ghost use Rattle.rz_solver.specs.Answer.{IsAnswer};
 
 use crate::writing::write;
-use rz_laws::laws::validity;
 use rz_log::laws::{derivation, scoping};
 use rz_log::{Entail, Entailed, World};
+use rz_metatheory::laws::validity;
 use rz_pool::Pool;
-use rz_proof::{MOST_COORDINATES, Proof};
 use rz_rules::{Coord, OutOfMemory, Ranks};
-use rz_search::{Found, prove, ranks, root_branch};
-use rz_sequent::read;
 use rz_tope::occurring;
+use rz_tope_normal::read;
+use rz_tope_proof::{MOST_COORDINATES, Proof};
+use rz_tope_search::{Found, prove, ranks, root_branch};
 use std::alloc::Global;
 
 /// What is found of a tope.

@@ -4,11 +4,11 @@ ghost use Rattle.std.specs.Prelude.{◌≡◌, ◌<◌, [], length, IfOk};
 ghost use Rattle.rz_rules.specs.declared.kinds.Sort.TheVariants.{Context};
 ghost use Rattle.rz_rules.specs.Tree.{HasForm, IsTree, Tree, tree_of, tree_over, trees_in};
 ghost use Rattle.rz_pool.specs.Pool.{Grows, IsPool};
-ghost use Rattle.rz_proof.specs.Claim.{IsClaim, tope_of};
+ghost use Rattle.rz_tope_proof.specs.Claim.{IsClaim, tope_of};
 
 use rz_pool::Pool;
-use rz_proof::Claim;
 use rz_rules::{Kids, Kind, Name, Node, OutOfMemory};
+use rz_tope_proof::Claim;
 use std::alloc::Global;
 
 /// The id of a node without number and name.

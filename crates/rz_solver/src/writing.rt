@@ -10,9 +10,9 @@ ghost use Rattle.rz_rules.specs.declared.kinds.Sort.TheVariants.{Context};
 ghost use Rattle.rz_rules.specs.Derivation.{Follows};
 ghost use Rattle.rz_rules.specs.Structural.{formed, holds};
 ghost use Rattle.rz_rules.specs.Tree.{IsTree, Tree, tree_of};
-ghost use Rattle.rz_proof.specs.declared.proof.Reason.TheVariants as reason;
-ghost use Rattle.rz_proof.specs.Claim.{IsClaim, tope_of};
-ghost use Rattle.rz_proof.specs.Proving.{Proves};
+ghost use Rattle.rz_tope_proof.specs.declared.proof.Reason.TheVariants as reason;
+ghost use Rattle.rz_tope_proof.specs.Claim.{IsClaim, tope_of};
+ghost use Rattle.rz_tope_proof.specs.Proving.{Proves};
 ghost use Rattle.rz_log.specs.declared.world.World.{World};
 ghost use Rattle.rz_log.specs.World.{Grows, IsSound, Says, context_at, statements_in};
 ghost use Rattle.rz_lemmas.specs.Moves.{HasTope, hypothesis_of};
@@ -23,8 +23,8 @@ use crate::lines::{add_holds, find_claim};
 use crate::topes::tope;
 use rz_lemmas::hypothesis;
 use rz_log::World;
-use rz_proof::{Claim, Inference, Proof, Reason};
 use rz_rules::{OutOfMemory, Row};
+use rz_tope_proof::{Claim, Inference, Proof, Reason};
 use std::alloc::Global;
 
 /// A context to which assumptions of a proof are added.

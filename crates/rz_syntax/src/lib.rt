@@ -17,7 +17,8 @@ mod parts;
 pub use action::{Action, Join, Leaf, Step};
 pub use fault::ParseFault;
 pub use forms::{
-    Bind, Command, Commands, CubeNames, Form, Pat, Raw, RawFace, RawSequent, Shape, Word,
+    Bind, Command, Commands, CubeNames, Entry, EntrySort, Form, Pat, Raw, RawFace, RawSequent,
+    Shape, Word,
 };
 pub use grammar::{Rule, Symbol, alternatives};
 pub use laws::{one_reading, one_sequent};

@@ -6,14 +6,15 @@ use Rattle.rz_rules.specs.Tree.{Tree, tree_of}
 use Rattle.rz_rules.specs.Cube.{Binders}
 use Rattle.rz_pool.specs.Pool.{Grows}
 use Rattle.rz_cube.specs.declared.points.Points.{Points}
-use Rattle.rz_cube.specs.Point.{AreCubes, binders_at}
-use Rattle.rz_cube.specs.Told.{Tells, TellsKids}
-use Rattle.rz_cube.proofs.ToldPoints.{at_point-Grows, old_node}
+use Rattle.rz_cube.specs.Point.{binders_at}
+use Rattle.rz_pool.specs.Cubes.{AreCubes}
+use Rattle.rz_cube.specs.Cached.{Caches, CachesKids}
+use Rattle.rz_cube.proofs.CachedPoints.{at_point-Grows, old_node}
 use Rattle.rz_tope.specs.Tope.{HasAnswer, KidsHaveAnswers}
 
 module _ {X : Type 0} (answer : Binders → Tree → X) (ns ms : List Node) (grows : Grows ns ms) (entries : List ℕ) (are : AreCubes ns entries)
-    (before after : Points) (kept : (q : ℕ) → Tells ns entries before q → Tells ms entries after q) where
-  -- what is told stays while the pool grows
+    (before after : Points) (kept : (q : ℕ) → Caches ns entries before q → Caches ms entries after q) where
+  -- what is cached stays while the pool grows
   pub HasAnswer-Grows : (table : ℕ → Option X) (id : ℕ) → HasAnswer answer ns entries before table id → HasAnswer answer ms entries after table id
   HasAnswer-Grows table id has = record {
     point = kept id has.point;
@@ -23,18 +24,18 @@ module _ {X : Type 0} (answer : Binders → Tree → X) (ns ms : List Node) (gro
   pub KidsHaveAnswers-Grows : (table : ℕ → Option X) (id : ℕ) → id < length ns → KidsHaveAnswers answer ns entries before table id → KidsHaveAnswers answer ms entries after table id
   KidsHaveAnswers-Grows table id live kids node at k d l = HasAnswer-Grows table _ (kids node (old_node ns ms grows id node live at) k d l)
 
--- the kids are told of as points
-pub TellsKids-answers : {X : Type 0} (answer : Binders → Tree → X) (ns : List Node) (entries : List ℕ) (points : Points) (table : ℕ → Option X) (id : ℕ)
-    → KidsHaveAnswers answer ns entries points table id → TellsKids ns entries points id
-TellsKids-answers answer ns entries points table id kids node at k d l = (kids node at k d l).point
+-- the kids are cached as points
+pub CachesKids-answers : {X : Type 0} (answer : Binders → Tree → X) (ns : List Node) (entries : List ℕ) (points : Points) (table : ℕ → Option X) (id : ℕ)
+    → KidsHaveAnswers answer ns entries points table id → CachesKids ns entries points id
+CachesKids-answers answer ns entries points table id kids node at k d l = (kids node at k d l).point
 
 -- a table with one answer more
-module _ {X : Type 0} (answer : Binders → Tree → X) (ns : List Node) (entries : List ℕ) (points : Points) (id : ℕ) (tells : Tells ns entries points id)
+module _ {X : Type 0} (answer : Binders → Tree → X) (ns : List Node) (entries : List ℕ) (points : Points) (id : ℕ) (caches : Caches ns entries points id)
     (x : X) (is : x ≡ answer (binders_at ns entries) (tree_of ns id)) (before after : ℕ → Option X)
     (noted : (q : ℕ) → after q ≡ cond (nat_eq id q) (Some x) (before q)) where
   pub answer_here : HasAnswer answer ns entries points after id
   answer_here = record {
-    point = tells;
+    point = caches;
     is = noted id ∙ ap (λ b. cond b (Some x) (before id)) ((unsigned_Decides id id).1 refl) ∙ ap (λ (y : X). Some y) is;
   }
 

@@ -10,11 +10,11 @@ use Rattle.rz_rules.specs.Cube.{Binders}
 use Rattle.rz_rules.specs.Coordinate.{coordinates}
 use Rattle.rz_rules.specs.Validity.{RankList, rank_in, truth, compared}
 use Rattle.rz_cube.specs.declared.points.Points.{Points}
-use Rattle.rz_cube.specs.declared.points.ToldPoint.{ToldPoint}
+use Rattle.rz_cube.specs.declared.points.CachedPoint.{CachedPoint}
 use Rattle.rz_cube.specs.Point.{binders_at}
-use Rattle.rz_cube.specs.Told.{told_of}
+use Rattle.rz_cube.specs.Cached.{cached_of}
 use Rattle.rz_cube.proofs.NodeTrees.{tree_as}
-use Rattle.rz_cube.proofs.ToldPoints.{childless, all_two, told_is}
+use Rattle.rz_cube.proofs.CachedPoints.{childless, all_two, cached_is}
 use Rattle.rz_tope.specs.Occurrence.{occurrences}
 use Rattle.rz_tope.proofs.Adding.{occurrences-both}
 use Rattle.rz_tope.specs.Tope.{HasAnswer, KidsHaveAnswers, truth_in, list_of}
@@ -35,10 +35,10 @@ pub table_is : {X : Type 0} (answer : Binders → Tree → X) (ns : List Node) (
     → HasAnswer answer ns entries points table id → (x : X) → table id ≡ Some x → x ≡ answer (binders_at ns entries) (tree_of ns id)
 table_is answer ns entries points table id has x e = let is = has.is in cc
 
--- the coordinates that are told
+-- the coordinates that are cached
 pub coordinates_are : {X : Type 0} (answer : Binders → Tree → X) (ns : List Node) (entries : List ℕ) (points : Points) (table : ℕ → Option X) (id : ℕ)
-    → HasAnswer answer ns entries points table id → (told : ToldPoint) → told_of points id ≡ Some told → told.coordinates ≡ coordinates (binders_at ns entries) (tree_of ns id)
-coordinates_are answer ns entries points table id has told e = (told_is ns entries points id has.point told e).list
+    → HasAnswer answer ns entries points table id → (cached : CachedPoint) → cached_of points id ≡ Some cached → cached.coordinates ≡ coordinates (binders_at ns entries) (tree_of ns id)
+coordinates_are answer ns entries points table id has cached e = (cached_is ns entries points id has.point cached e).list
 
 module _ (ns : List Node) (entries : List ℕ) (points : Points) (id : ℕ) (n : Node) (is : tree_of ns id ≡ tree_over (trees_in ns) n) (fine : HasForm (trees_in ns) id n) (at : slice_get ns id ≡ Some n) where
   abbrev b : Binders
@@ -64,7 +64,7 @@ module _ (ns : List Node) (entries : List ℕ) (points : Points) (id : ℕ) (n :
         let second = table_is (truth_in ranks) ns entries points table q both.1 y ey in
         (λ i. first i || second i) ∙ sym (ap (truth_in ranks b) (tree_as ns id n Disjunction (p ∷ q ∷ []) is k are))
 
-    pub equal_true : (cube s u : ℕ) → n.kind ≡ EqualPoints → n.kids ≡ cube ∷ s ∷ u ∷ [] → (first second : ToldPoint) → told_of points s ≡ Some first → told_of points u ≡ Some second
+    pub equal_true : (cube s u : ℕ) → n.kind ≡ EqualPoints → n.kids ≡ cube ∷ s ∷ u ∷ [] → (first second : CachedPoint) → cached_of points s ≡ Some first → cached_of points u ≡ Some second
         → pointwise nat_eq (map (rank_in ranks) first.coordinates) (map (rank_in ranks) second.coordinates) ≡ truth b (rank_in ranks) (tree_of ns id)
     equal_true cube s u k are first second es eu =
         let both = all_last (HasAnswer (truth_in ranks) ns entries points table) cube s u n.kids are (kids n at) in
@@ -73,7 +73,7 @@ module _ (ns : List Node) (entries : List ℕ) (points : Points) (id : ℕ) (n :
         (λ i. pointwise nat_eq (map (rank_in ranks) (left i)) (map (rank_in ranks) (right i)))
         ∙ sym (ap (truth_in ranks b) (tree_as ns id n EqualPoints (cube ∷ s ∷ u ∷ []) is k are))
 
-    pub at_most_true : (s u : ℕ) → n.kind ≡ AtMost → n.kids ≡ s ∷ u ∷ [] → (first second : ToldPoint) → told_of points s ≡ Some first → told_of points u ≡ Some second
+    pub at_most_true : (s u : ℕ) → n.kind ≡ AtMost → n.kids ≡ s ∷ u ∷ [] → (first second : CachedPoint) → cached_of points s ≡ Some first → cached_of points u ≡ Some second
         → nat_le (slice_index (map (rank_in ranks) first.coordinates) 0) (slice_index (map (rank_in ranks) second.coordinates) 0) ≡ truth b (rank_in ranks) (tree_of ns id)
     at_most_true s u k are first second es eu =
         let both = all_two (HasAnswer (truth_in ranks) ns entries points table) s u n.kids are (kids n at) in
@@ -95,7 +95,7 @@ module _ (ns : List Node) (entries : List ℕ) (points : Points) (id : ℕ) (n :
         ] in
         (λ i. occurrences (first i ++ second i)) ∙ occurrences-both (compared b (tree_of ns p)) (compared b (tree_of ns q)) ∙ ap occurrences (sym whole)
 
-    pub equal_list : (cube s u : ℕ) → n.kind ≡ EqualPoints → n.kids ≡ cube ∷ s ∷ u ∷ [] → (first second : ToldPoint) → told_of points s ≡ Some first → told_of points u ≡ Some second
+    pub equal_list : (cube s u : ℕ) → n.kind ≡ EqualPoints → n.kids ≡ cube ∷ s ∷ u ∷ [] → (first second : CachedPoint) → cached_of points s ≡ Some first → cached_of points u ≡ Some second
         → occurrences (first.coordinates ++ second.coordinates) ≡ occurrences (compared b (tree_of ns id))
     equal_list cube s u k are first second es eu =
         let both = all_last (HasAnswer list_of ns entries points table) cube s u n.kids are (kids n at) in
@@ -103,7 +103,7 @@ module _ (ns : List Node) (entries : List ℕ) (points : Points) (id : ℕ) (n :
         let right = coordinates_are list_of ns entries points table u both.1 second eu in
         (λ i. occurrences (left i ++ right i)) ∙ sym (ap (list_of b) (tree_as ns id n EqualPoints (cube ∷ s ∷ u ∷ []) is k are))
 
-    pub at_most_list : (s u : ℕ) → n.kind ≡ AtMost → n.kids ≡ s ∷ u ∷ [] → (first second : ToldPoint) → told_of points s ≡ Some first → told_of points u ≡ Some second
+    pub at_most_list : (s u : ℕ) → n.kind ≡ AtMost → n.kids ≡ s ∷ u ∷ [] → (first second : CachedPoint) → cached_of points s ≡ Some first → cached_of points u ≡ Some second
         → occurrences (first.coordinates ++ second.coordinates) ≡ occurrences (compared b (tree_of ns id))
     at_most_list s u k are first second es eu =
         let both = all_two (HasAnswer list_of ns entries points table) s u n.kids are (kids n at) in

@@ -1,4 +1,4 @@
--- What is told of topes and points by their ids.
+-- What is known of topes and points by their ids.
 use Rattle.std.specs.Prelude.{◌≡◌, ℕ, Bool, List, All, Option, Some, slice_get}
 use Rattle.rz_rules.specs.declared.coordinates.Coord.{Coord}
 use Rattle.rz_rules.specs.declared.nodes.Node.{Node}
@@ -7,13 +7,13 @@ use Rattle.rz_rules.specs.Cube.{Binders}
 use Rattle.rz_rules.specs.Validity.{RankList, rank_in, truth, compared}
 use Rattle.rz_cube.specs.declared.points.Points.{Points}
 use Rattle.rz_cube.specs.Point.{binders_at}
-use Rattle.rz_cube.specs.Told.{Tells}
+use Rattle.rz_cube.specs.Cached.{Caches}
 use Rattle.rz_tope.specs.Occurrence.{occurrences}
 
--- the id is told of as a point, and a table has the answer to a question on its tree
+-- the id is cached as a point, and a table has the answer to a question on its tree
 pub record HasAnswer {X : Type 0} (answer : Binders → Tree → X) (nodes : List Node) (entries : List ℕ)
     (points : Points) (table : ℕ → Option X) (id : ℕ) : Type 0 where
-  pub point : Tells nodes entries points id
+  pub point : Caches nodes entries points id
   pub is : table id ≡ Some (answer (binders_at nodes entries) (tree_of nodes id))
 
 abbrev pub KidsHaveAnswers : {X : Type 0} → (Binders → Tree → X) → List Node → List ℕ → Points → (ℕ → Option X) → ℕ → Type 0

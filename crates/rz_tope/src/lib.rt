@@ -1,8 +1,6 @@
 //! Topes over a context: whether one is true at given ranks, and which coordinates occur in it.
 #![tactic(auto)]
 
-mod entries;
-mod kids;
 mod lists;
 mod occurrences;
 mod ranks;

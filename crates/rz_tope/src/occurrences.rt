@@ -6,15 +6,15 @@ ghost use Rattle.std.specs.HashMap.{get};
 ghost use Rattle.rz_rules.specs.Tree.{tree_of};
 ghost use Rattle.rz_rules.specs.Validity.{compared, occurring};
 ghost use Rattle.rz_pool.specs.Pool.{Grows};
-ghost use Rattle.rz_cube.specs.Point.{binders_at, AreCubes};
-ghost use Rattle.rz_tope.specs.Occurrence.{occurrences, raised_by, IsEntry};
+ghost use Rattle.rz_cube.specs.Point.{binders_at};
+ghost use Rattle.rz_pool.specs.Cubes.{AreCubes};
+ghost use Rattle.rz_tope.specs.Occurrence.{occurrences, raised_by};
+ghost use Rattle.rz_pool.specs.Entry.{IsLast};
 ghost use Rattle.rz_tope.specs.Tope.{KidsHaveLists};
 
-use crate::entries::{Added, Entry, last_entry};
-use crate::kids::{three_kids, two_kids};
 use crate::lists::{add, all_raised, merged, rest};
 use rz_cube::{Points, cubes_of};
-use rz_pool::Pool;
+use rz_pool::{Entry, Last, Pool, last_entry, three_kids, two_kids};
 use rz_rules::{Coords, Kind, OutOfMemory};
 use std::alloc::Global;
 use std::collections::HashMap;
@@ -41,8 +41,8 @@ pub fn occurring(
         behind: 0,
         list,
     };
-    while let Some(entry) = last_entry(pool, walk.at) {
-        walk.pass(alloc, pool, &entries, entry)?;
+    while let Some(last) = last_entry(pool, walk.at) {
+        walk.pass(alloc, pool, &entries, last)?;
     }
     Ok(walk.list)
 }
@@ -67,23 +67,24 @@ impl Walk {
         alloc: Global,
         pool: &mut Pool,
         entries: &[u64],
-        entry: Entry,
+        last: Last,
     ) -> Result<(), OutOfMemory>
-        requires entry { IsEntry pool.old.nodes self.old.at entry }
+        requires lower { last.before < self.old.at }
+        requires last { IsLast pool.old.nodes self.old.at last }
         requires entries { AreCubes pool.old.nodes entries.now }
         requires walk { (whole : List Coord) × IsWalk pool.old.nodes entries.now whole self.old }
         ensures walk { OnOk result ((whole : List Coord)
             → IsWalk pool.old.nodes entries.now whole self.old
             → IsWalk pool.old.nodes entries.now whole self.new) }
-        ensures at { OnOk result (self.new.at ≡ entry.before) }
+        ensures at { OnOk result (self.new.at ≡ last.before) }
         ensures nodes { pool.new.nodes ≡ pool.old.nodes }
     {
-        match entry.added {
-            Added::Point => self.behind += 1,
-            Added::Tope(tope) => self.list = self.list_with(alloc, pool, entries, tope)?,
-            Added::Term => {}
+        match last.entry {
+            Entry::Cube(_) => self.behind += 1,
+            Entry::Tope(tope) => self.list = self.list_with(alloc, pool, entries, tope)?,
+            Entry::Term(_) => {}
         }
-        self.at = entry.before;
+        self.at = last.before;
         Ok(())
     }
 
@@ -146,7 +147,7 @@ fn compared_with_cubes(
     let mut table: HashMap<u64, Coords> = HashMap::new(alloc);
     let mut parts = pool.parts(tope)?;
     while let Some(part) = parts.pop() {
-        points.tell(alloc, pool, entries, part)?;
+        points.cache(alloc, pool, entries, part)?;
         let list = compared_by_kids(alloc, pool, &points, &table, part)?;
         table.insert(part, list)?;
     }
@@ -156,7 +157,7 @@ fn compared_with_cubes(
     }
 }
 
-/// The coordinates that a tope compares, where those are told of its kids.
+/// The coordinates that a tope compares, where those are cached its kids.
 fn compared_by_kids(
     alloc: Global,
     pool: &Pool,

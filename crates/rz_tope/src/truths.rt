@@ -6,13 +6,13 @@ ghost use Rattle.rz_rules.specs.Tree.{tree_of};
 ghost use Rattle.rz_rules.specs.Cube.{binders_of};
 ghost use Rattle.rz_rules.specs.Validity.{rank_in, truth};
 ghost use Rattle.rz_pool.specs.Pool.{Grows};
-ghost use Rattle.rz_cube.specs.Point.{binders_at, AreCubes};
+ghost use Rattle.rz_cube.specs.Point.{binders_at};
+ghost use Rattle.rz_pool.specs.Cubes.{AreCubes};
 ghost use Rattle.rz_tope.specs.Tope.{KidsHaveTruths};
 
-use crate::kids::{three_kids, two_kids};
 use crate::ranks::{first_value, values};
 use rz_cube::{Points, cubes_of};
-use rz_pool::Pool;
+use rz_pool::{Pool, three_kids, two_kids};
 use rz_rules::{Coord, Kind, OutOfMemory, Ranks};
 use std::alloc::Global;
 use std::collections::HashMap;
@@ -78,14 +78,14 @@ fn truth_over(
     let mut table = HashMap::new(alloc);
     let mut parts = pool.parts(tope)?;
     while let Some(part) = parts.pop() {
-        points.tell(alloc, pool, entries, part)?;
+        points.cache(alloc, pool, entries, part)?;
         let answer = truth_by_kids(alloc, pool, &points, &table, ranks, part)?;
         table.insert(part, answer)?;
     }
     Ok(table[&tope])
 }
 
-/// Whether a tope is true, where that and the coordinates of points are told of its kids.
+/// Whether a tope is true, where that and the coordinates of points are cached its kids.
 fn truth_by_kids(
     alloc: Global,
     pool: &Pool,

@@ -21,7 +21,7 @@ use Rattle.rz_rules.specs.Row.{Assignment}
 use Rattle.rz_rules.specs.Table.{rule_of}
 use Rattle.rz_rules.specs.Tope.{IsTopeOver}
 use Rattle.rz_rules.specs.Tree.{Tree, tree_at}
-use Rattle.rz_spell.specs.Letters.{has_name}
+use Rattle.rz_rule_text.specs.Letters.{has_name}
 use Rattle.rz_lemmas.specs.Letters.{slots}
 use Rattle.rz_lemmas.specs.Conclude.{premises_in}
 use Rattle.rz_tope_tests.specs.Bench.{AreConcluded, CanMove, HaveKids, HaveSorts, IsConcluded, IsTrial, concluded, judgments_over, letters_over, said_after, trees_after}

@@ -17,7 +17,7 @@ use Rattle.rz_rules.specs.Table.{rule_of}
 use Rattle.rz_rules.specs.File.{statement_at}
 use Rattle.rz_pool.specs.Pool as pool
 use Rattle.rz_pool.proofs.Nodes.{KeepsTrees-Grows, slice_get-append}
-use Rattle.rz_spell.specs.Letters.{tree_for}
+use Rattle.rz_rule_text.specs.Letters.{tree_for}
 use Rattle.rz_log.specs.declared.world.World.{World}
 use Rattle.rz_log.specs.World.{Grows, IsSound, Says, statements_in}
 use Rattle.rz_rules.specs.declared.judgments.Line.{Line}

@@ -15,7 +15,7 @@ use Rattle.rz_rules.specs.Substitution.{none, raising}
 use Rattle.rz_rules.specs.Table.{rule_of}
 use Rattle.rz_rules.specs.File.{statement_at}
 use Rattle.rz_rules.specs.Derivation.{IsMet, IsScoped}
-use Rattle.rz_spell.specs.Letters.{has_name}
+use Rattle.rz_rule_text.specs.Letters.{has_name}
 use Rattle.rz_log.specs.World.{IsSound, statements_in}
 use Rattle.rz_lemmas.specs.Letters.{slots}
 use Rattle.rz_lemmas.specs.Conclude.{conclusion_in, premises_in}

@@ -12,11 +12,11 @@ ghost use Rattle.rz_log.specs.World.{Grows, IsSound, Says};
 ghost use Rattle.rz_tope_tests.specs.Sequent.{IsAnswered, IsAsked, IsQuestion, IsStepOf};
 
 use crate::bench::{Bench, ClaimRow};
+use rz_context::Knowledge;
 use rz_cube::{CubeFault, leaves};
 use rz_log::{Entail, Entailed, World};
 use rz_pool::Pool;
 use rz_rules::{Bytes, OutOfMemory, Ranks, Sort};
-use rz_scope::Knowledge;
 use rz_solver::{Solver, empty_context, with_cube, with_tope};
 use rz_tope::truth;
 use rz_tree_tests::read;

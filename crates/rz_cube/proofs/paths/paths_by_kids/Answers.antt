@@ -5,7 +5,7 @@ use Rattle.rz_rules.specs.declared.coordinates.TheConstants.{LEFT, RIGHT}
 use Rattle.rz_rules.specs.Tree.{tree_of}
 use Rattle.rz_rules.specs.Coordinate.{paths}
 use Rattle.rz_cube.specs.Point.{HasPaths}
-use Rattle.rz_cube.proofs.ToldPoints.{all_two}
+use Rattle.rz_cube.proofs.CachedPoints.{all_two}
 use Rattle.rz_cube.proofs.PathTables.{interval_paths, parts_paths}
 use Rattle.rz_cube.proofs.paths.paths_by_kids.Goals as goal
 

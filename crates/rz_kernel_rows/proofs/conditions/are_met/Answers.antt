@@ -5,7 +5,7 @@ use Rattle.rz_rules.specs.declared.symbols.Condition.{Condition}
 use Rattle.rz_rules.specs.declared.symbols.Condition.TheVariants.{FewLeaves}
 use Rattle.rz_rules.specs.declared.kinds.Sort.TheVariants.{Cube}
 use Rattle.rz_rules.specs.Derivation.{IsMet}
-use Rattle.rz_spell.specs.Letters.{IsFound, assignment_of}
+use Rattle.rz_rule_text.specs.Letters.{IsFound, assignment_of}
 use Rattle.rz_pool.proofs.Nodes.{Grows-trans}
 use Rattle.rz_kernel_rows.specs.Line.{letters_of}
 use Rattle.rz_kernel_rows.proofs.MetConditions.{found_grown, met_grown}

@@ -1,8 +1,8 @@
 use Rattle.std.proofs.Common.{take, All}
 use Rattle.rz_rules.specs.Derivation.{IsMet}
 use Rattle.rz_pool.specs.Pool.{Grows}
-use Rattle.rz_scope.specs.Knowledge.{IsKnown}
-use Rattle.rz_spell.specs.Letters.{assignment_of}
+use Rattle.rz_context.specs.Knowledge.{IsKnown}
+use Rattle.rz_rule_text.specs.Letters.{assignment_of}
 use Rattle.rz_kernel_rows.proofs.conditions.are_met.Given as goal
 
 -- the conditions so far are met, and the pool grew

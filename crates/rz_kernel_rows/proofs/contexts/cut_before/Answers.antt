@@ -3,7 +3,7 @@ use Rattle.std.proofs.lemmas.List.{length_push}
 use Rattle.std.proofs.lemmas.List.Elements.{All-push}
 use Rattle.rz_rules.specs.Tree.{tree_of}
 use Rattle.rz_rules.specs.Context.{with_entries}
-use Rattle.rz_scope.specs.declared.entries.Entry.{Entry}
+use Rattle.rz_pool.specs.declared.entries.Entry.{Entry}
 use Rattle.rz_kernel_rows.specs.Context.{IsEntryAt, entries_over}
 use Rattle.rz_kernel_rows.proofs.Entries.{cut_more, no_cut}
 use Rattle.rz_kernel_rows.proofs.contexts.cut_before.Goals as goal

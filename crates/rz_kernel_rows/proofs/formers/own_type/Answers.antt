@@ -1,6 +1,6 @@
 use Rattle.std.proofs.Common.{ap, sym, ◌∙◌}
 use Rattle.rz_rules.specs.Tree.{kind_at, tree_of}
-use Rattle.rz_scope.specs.Knowledge.{IsKnown}
+use Rattle.rz_context.specs.Knowledge.{IsKnown}
 use Rattle.rz_kernel_rows.proofs.Concluding.{anyway}
 use Rattle.rz_kernel_rows.proofs.Owning.{own_former, own_variable, types_alike}
 use Rattle.rz_kernel_rows.proofs.formers.own_type.Goals as goal

@@ -1,7 +1,7 @@
 use Rattle.rz_rules.specs.Tree.{kind_at, tree_of}
 use Rattle.rz_rules.specs.Table.{rule_of}
 use Rattle.rz_kernel_rows.proofs.Typed.{are_letters, are_typing, no_subject, said_none, said_typed, too_high}
-use Rattle.rz_spell.specs.Spelling.{AreLetters}
+use Rattle.rz_rule_text.specs.Spelling.{AreLetters}
 use Rattle.rz_kernel_rows.proofs.formers.typing_row.Goals as goal
 use Rattle.rz_kernel_rows.proofs.formers.typing_row.Goals.{In-Some}
 

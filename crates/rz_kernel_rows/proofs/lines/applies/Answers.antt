@@ -7,7 +7,7 @@ use Rattle.rz_rules.specs.Table.{rule_of}
 use Rattle.rz_rules.specs.Structural.{ConcludesBy}
 use Rattle.rz_rules.specs.declared.nodes.Node.{Node}
 use Rattle.rz_pool.proofs.Nodes.{Grows-same}
-use Rattle.rz_scope.specs.Knowledge.{IsKnown}
+use Rattle.rz_context.specs.Knowledge.{IsKnown}
 use Rattle.rz_kernel_rows.proofs.Concluding.{by_scheme, said_iff}
 use Rattle.rz_kernel_rows.proofs.Spelled.{restored}
 use Rattle.rz_kernel_rows.proofs.lines.applies.Goals as goal

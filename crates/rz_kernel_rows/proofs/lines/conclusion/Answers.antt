@@ -6,7 +6,7 @@ use Rattle.rz_rules.specs.Judgment.{statement}
 use Rattle.rz_rules.specs.Structural.{ConcludesBy, IsContextOf, SameAsOwn, TypesVariable}
 use Rattle.rz_kernel_rows.specs.Move.{IsConclusionFor}
 use Rattle.rz_kernel_rows.proofs.Concluding.{conclusion_for, conclusions_for, without_number}
-use Rattle.rz_spell.proofs.Over.{IsStatement-over}
+use Rattle.rz_rule_text.proofs.Over.{IsStatement-over}
 use Rattle.rz_kernel_rows.proofs.lines.conclusion.Goals as goal
 
 pub returns-in-Hypothesis-clause-concludes : goal.returns-in-Hypothesis-clause-concludes

@@ -1,14 +1,14 @@
 use Rattle.std.proofs.Common.{◌≡◌, ◌<◌, length, true, subst}
 use Rattle.std.specs.Prelude.{◌↔◌, IfOk}
-use Rattle.std.proofs.lemmas.List.Elements.{All-head, All-map, All-tail}
+use Rattle.std.proofs.lemmas.List.Elements.{All-head, All-tail}
 use Rattle.rz_rules.specs.declared.judgments.Judgment.{Judgment}
 use Rattle.rz_rules.specs.Derivation.{IsScoped}
 use Rattle.rz_rules.specs.Judgment.{context_of, kind_of, parts_of, statement}
 use Rattle.rz_rules.specs.Tree.{trees_in}
-use Rattle.rz_scope.proofs.Growing.{same_tree, same_trees}
-use Rattle.rz_kernel_rows.specs.Line.{IsJudgmentOver, said}
+use Rattle.rz_context.proofs.Growing.{same_tree, same_trees}
+use Rattle.rz_kernel_rows.specs.Line.{IsJudgmentOver}
 use Rattle.rz_kernel_rows.proofs.Following.{no_premises, premises_low, step_iff}
-use Rattle.rz_spell.proofs.Over.{IsStatement-over}
+use Rattle.rz_rule_text.proofs.Over.{IsStatement-over}
 use Rattle.rz_kernel_rows.proofs.Spelled.{by_iff}
 use Rattle.rz_kernel_rows.proofs.lines.follows_with.Goals as goal
 
@@ -17,7 +17,7 @@ returns-in_default-clause-follows c =
     let ns = c.args.pool.now.nodes in
     let line = c.args.line.now in (
       λ wrong. absurd cc,
-      λ follows. absurd (no_premises (trees_in ns) line.row line.number (said c.args.lines.now) line.from (statement (trees_in ns) line.says)
+      λ follows. absurd (no_premises (trees_in ns) line.row line.number c.args.said.now line.from (statement (trees_in ns) line.says)
           (rw (c.in_default.is, c.as_slice.ensures) at c.in_ok-premises.ensures.none) follows),
     )
 
@@ -27,7 +27,7 @@ applies-requires-clause-premises c =
     let line = c.args.line.now in
     let P : Judgment → Type 0 = IsJudgmentOver ns in
     let named = rw (c.in-Some.is, c.as_slice.ensures) at c.in_ok-premises.ensures.found in
-    premises_low P (said c.args.lines.now) c.in-Some.premises.items line.from (All-map P (λ line. line.says) c.args.lines.now c.requires.lines) named
+    premises_low P c.args.said.now c.in-Some.premises.items line.from c.requires.said named
 
 pub returns-then-not-branch-clause-follows : goal.returns-then-not-branch-clause-follows
 returns-then-not-branch-clause-follows c =
@@ -35,7 +35,7 @@ returns-then-not-branch-clause-follows c =
     let line = c.args.line.now in
     let named = rw (c.in-Some.is, c.as_slice.ensures) at c.in_ok-premises.ensures.found in
     let trees = IsStatement-over ns c.in_ok-applies.ensures.pool.forms line.says c.requires.line in
-    let step = step_iff (trees_in ns) line.row line.number line.says (said c.args.lines.now) c.in-Some.premises.items line.from trees named in (
+    let step = step_iff (trees_in ns) line.row line.number line.says c.args.said.now c.in-Some.premises.items line.from trees named in (
       λ wrong. absurd cc,
       λ follows.
           let yes = c.in_ok-applies.ensures.applies.1 (step.1 follows).0 in
@@ -50,7 +50,7 @@ returns-clause-follows c =
     let r = c.is_scoped.result in
     let named = rw (c.in-Some.is, c.as_slice.ensures) at c.in_ok-premises.ensures.found in
     let trees = IsStatement-over ns c.in_ok-applies.ensures.pool.forms line.says c.requires.line in
-    let step = step_iff (trees_in ns) line.row line.number line.says (said c.args.lines.now) c.in-Some.premises.items line.from trees named in
+    let step = step_iff (trees_in ns) line.row line.number line.says c.args.said.now c.in-Some.premises.items line.from trees named in
     let applies = c.in_ok-applies.ensures.applies.0 c.if-not-branch.false in
     let new = c.applies.new.pool.nodes in
     let grows = c.in_ok-applies.ensures.grows in

@@ -4,8 +4,8 @@ use Rattle.rz_rules.specs.declared.nodes.Node.{Node}
 use Rattle.rz_rules.specs.declared.symbols.Condition.{Condition}
 use Rattle.rz_rules.specs.Derivation.{IsMet}
 use Rattle.rz_rules.specs.Table.{rule_of}
-use Rattle.rz_scope.specs.Knowledge.{IsKnown}
-use Rattle.rz_spell.specs.Letters.{IsFound, assignment_of}
+use Rattle.rz_context.specs.Knowledge.{IsKnown}
+use Rattle.rz_rule_text.specs.Letters.{IsFound, assignment_of}
 use Rattle.rz_kernel_rows.specs.Line.{letters_of}
 use Rattle.rz_kernel_rows.proofs.Spelled.{by_iff, conditions_found, letters_are, met_iff, not_spelled, restored}
 use Rattle.rz_kernel_rows.proofs.lines.is_instance.Goals as goal

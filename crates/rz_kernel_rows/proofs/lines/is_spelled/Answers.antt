@@ -1,5 +1,5 @@
 use Rattle.rz_rules.specs.Table.{rule_of}
-use Rattle.rz_spell.proofs.Putting.{live-over}
+use Rattle.rz_rule_text.proofs.Putting.{live-over}
 use Rattle.rz_kernel_rows.proofs.Spelled.{was_spelled, was_too_high}
 use Rattle.rz_kernel_rows.proofs.lines.is_spelled.Goals as goal
 

@@ -1,6 +1,6 @@
 use Rattle.std.proofs.Common.{ℕ, ◌∷◌, ◌++◌, ◌<◌, [], List, length, sym, subst}
 use Rattle.rz_rules.specs.declared.kinds.Sort.TheVariants.{Context}
-use Rattle.rz_scope.specs.declared.entries.Entry.{Entry}
+use Rattle.rz_pool.specs.declared.entries.Entry.{Entry}
 use Rattle.rz_kernel_rows.specs.Context.{IsAt, IsEntryAt}
 use Rattle.rz_kernel_rows.proofs.Extending.{IsAt-Grows, IsEntryAt-Grows, IsExtending, IsThere-Grows, entry_live, extended_more, no_context, with_id-at}
 use Rattle.rz_kernel_rows.proofs.moves.extend.Goals as goal

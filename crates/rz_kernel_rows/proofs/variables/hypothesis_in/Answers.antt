@@ -9,11 +9,11 @@ use Rattle.rz_pool.proofs.Nodes.{KeepsTrees-Grows, Grows-same}
 use Rattle.rz_kernel_rows.specs.Context.{IsEntryAt, entry_over}
 use Rattle.std.specs.Prelude.{◌↔◌}
 use Rattle.rz_pool.specs.Counts.{depth_of as depth_of_counts}
-use Rattle.rz_spell.proofs.Stacks.{IndicesBelow-IsTree}
+use Rattle.rz_rule_text.proofs.Stacks.{IndicesBelow-IsTree}
 use Rattle.rz_kernel_rows.proofs.Extending.{IsAt-Grows}
 use Rattle.rz_kernel_rows.proofs.Judged.{holds_over}
-use Rattle.rz_scope.specs.declared.places.Measure.TheVariants.{Entries}
-use Rattle.rz_scope.proofs.Measures.{counted-length}
+use Rattle.rz_context.specs.declared.summaries.Measure.TheVariants.{Entries}
+use Rattle.rz_context.proofs.Measures.{counted-length}
 use Rattle.rz_kernel_rows.proofs.Searching.{few_entries, found_cut}
 use Rattle.rz_kernel_rows.proofs.Giving.{hypothesis_iff, no_entry, no_tope, no_tope_over, sort_weakened}
 use Rattle.rz_kernel_rows.proofs.variables.hypothesis_in.Goals as goal

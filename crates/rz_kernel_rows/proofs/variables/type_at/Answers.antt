@@ -5,9 +5,9 @@ use Rattle.rz_rules.specs.Substitution.{Depth, only, total}
 use Rattle.rz_rules.specs.Context.{with_entries, with_entry}
 use Rattle.rz_rules.specs.Structural.{term_variable}
 use Rattle.rz_pool.specs.Counts.{depth_of as depth_of_counts}
-use Rattle.rz_scope.specs.declared.entries.Entry.{Entry}
-use Rattle.rz_scope.specs.declared.places.Measure.TheVariants as measure
-use Rattle.rz_scope.proofs.Measures.{counted-terms}
+use Rattle.rz_pool.specs.declared.entries.Entry.{Entry}
+use Rattle.rz_context.specs.declared.summaries.Measure.TheVariants as measure
+use Rattle.rz_context.proofs.Measures.{counted-terms}
 use Rattle.rz_kernel_rows.specs.Context.{IsEntryAt, bound_by, entry_over, tree_in}
 use Rattle.rz_kernel_rows.proofs.Searching.{few_terms, found_cut, term_entry}
 use Rattle.rz_kernel_rows.proofs.Giving.{no_variable, sort_weakened, type_for, variable_iff}

@@ -4,7 +4,7 @@ use Rattle.rz_rules.specs.declared.judgments.Judgment.TheVariants.{Holds}
 use Rattle.rz_rules.specs.Derivation.{Follows}
 use Rattle.rz_rules.specs.Tree.{tree_of}
 use Rattle.rz_rules.specs.declared.rows.Row.TheVariants as row
-use Rattle.rz_scope.specs.Entry.{IsAt}
+use Rattle.rz_pool.specs.Entry.{IsAt}
 use Rattle.rz_log.specs.Log.{statements_of, step_of}
 use Rattle.rz_log.specs.World.{Says}
 use Rattle.rz_log.proofs.Worlds.{grows_pool, sound_pool}

@@ -3,7 +3,7 @@ use Rattle.rz_rules.specs.Tree.{tree_of}
 use Rattle.rz_rules.specs.Substitution.{changed, none, raising}
 use Rattle.rz_rules.proofs.Depths.{changed_nothing}
 use Rattle.rz_pool.specs.Counts.{depth_of}
-use Rattle.rz_scope.specs.declared.entries.Entry.{Entry}
+use Rattle.rz_pool.specs.declared.entries.Entry.{Entry}
 use Rattle.rz_lemmas.specs.Behind.{bound_in}
 use Rattle.rz_lemmas.proofs.structural.raise.Goals as goal
 

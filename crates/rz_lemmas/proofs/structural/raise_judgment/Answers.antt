@@ -10,7 +10,7 @@ use Rattle.rz_rules.specs.Tree.{tree_of, trees_in}
 use Rattle.rz_pool.specs.Counts.{depth_of}
 use Rattle.rz_pool.specs.Pool.{Grows}
 use Rattle.rz_pool.proofs.Nodes.{Grows-trans, KeepsTrees-Grows, length-Grows}
-use Rattle.rz_spell.specs.Spelling.{IsLive}
+use Rattle.rz_rule_text.specs.Spelling.{IsLive}
 use Rattle.rz_lemmas.specs.Behind.{bound_in}
 use Rattle.rz_lemmas.specs.Moves.{raised_judgment}
 use Rattle.rz_lemmas.proofs.Moving.{raised_over}

@@ -6,10 +6,10 @@ use Rattle.rz_rules.specs.declared.judgments.Judgment.{Judgment}
 use Rattle.rz_rules.specs.declared.symbols.Symbol.{Symbol}
 use Rattle.rz_rules.specs.Judgment.{statement}
 use Rattle.rz_rules.specs.Row.{spelled}
-use Rattle.rz_spell.specs.Letters.{assignment_of}
+use Rattle.rz_rule_text.specs.Letters.{assignment_of}
 use Rattle.rz_rules.specs.Table.{rule_of}
 use Rattle.rz_rules.specs.Tree.{trees_in}
-use Rattle.rz_spell.specs.Spelling.{AreLetters, IsJudgmentOver}
+use Rattle.rz_rule_text.specs.Spelling.{AreLetters, IsJudgmentOver}
 use Rattle.rz_lemmas.specs.Letters.{letters_at, placed, slots}
 use Rattle.rz_lemmas.proofs.Instances.{are_letters, row_says, spelled_at, spelled_last}
 use Rattle.rz_lemmas.proofs.texts.conclusion.Goals as goal

@@ -1,4 +1,4 @@
-use Rattle.rz_laws.proofs.Scoping.{statement_scoped}
+use Rattle.rz_metatheory.proofs.Scoping.{statement_scoped}
 use Rattle.rz_log.proofs.Derived.{good_at}
 use Rattle.rz_log.proofs.laws.scoping.Goals as goal
 

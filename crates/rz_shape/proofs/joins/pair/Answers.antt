@@ -8,7 +8,7 @@ returns-clause-read c place =
     let made = c.in_ok-make_point.ensures.point in
     record {
       there = made.there;
-      is = pair_is c.args.pool.now.nodes c.make_node.new.pool.nodes cube.grows c.args.left c.args.right c.requires.left c.requires.right
+      is = pair_is c.args.pool.now.nodes c.make_unnamed.new.self.nodes cube.grows c.args.left c.args.right c.requires.left c.requires.right
           c.args.whole c.from_slice-kids.result c.from_slice-cubes.result c.in_ok-cube.cube c.from_slice-kids.ensures c.from_slice-cubes.ensures
           (c.in_ok-wide.ensures ∙ c.if-wide.false) cube.tree
           ∙ made.is;

@@ -4,19 +4,19 @@ use Rattle.rz_rules.specs.declared.coordinates.Coord.{Coord}
 use Rattle.rz_rules.specs.Tree.{tree_of}
 use Rattle.rz_rules.specs.Validity.{IsRankList}
 use Rattle.rz_log.specs.Entail.{Refutes}
-use Rattle.rz_proof.specs.declared.parts.Part.{Part}
-use Rattle.rz_proof.specs.Order.{by_rank, rank}
-use Rattle.rz_proof.specs.Ranks.{ranks_from}
-use Rattle.rz_proof.specs.Reading.{tope_at}
-use Rattle.rz_proof.specs.Part.{AreParts, AreValues}
-use Rattle.rz_search.specs.Search.{IsFound, IsRefuted}
-use Rattle.rz_search.specs.Searching.{ProvesFound}
-use Rattle.rz_search.specs.Showing.{IsReading, Setting, Shows}
-use Rattle.rz_search.specs.Solving.{IsTrueGiven, ProvesGiven}
-use Rattle.rz_search.specs.Table.{order_of}
-use Rattle.rz_search.proofs.RankOrders.{rank-one, rank-zero}
-use Rattle.rz_search.proofs.Refuting.{ranks-refute}
-use Rattle.rz_search.proofs.Showing.{reading-later}
+use Rattle.rz_tope_proof.specs.declared.parts.Part.{Part}
+use Rattle.rz_tope_proof.specs.Order.{by_rank, rank}
+use Rattle.rz_tope_proof.specs.Ranks.{ranks_from}
+use Rattle.rz_tope_proof.specs.Reading.{tope_at}
+use Rattle.rz_tope_proof.specs.Part.{AreParts, AreValues}
+use Rattle.rz_tope_search.specs.Search.{IsFound, IsRefuted}
+use Rattle.rz_tope_search.specs.Searching.{ProvesFound}
+use Rattle.rz_tope_search.specs.Showing.{IsReading, Setting, Shows}
+use Rattle.rz_tope_search.specs.Solving.{IsTrueGiven, ProvesGiven}
+use Rattle.rz_tope_search.specs.Table.{order_of}
+use Rattle.rz_tope_search.proofs.RankOrders.{rank-one, rank-zero}
+use Rattle.rz_tope_search.proofs.Refuting.{ranks-refute}
+use Rattle.rz_tope_search.proofs.Showing.{reading-later}
 use Rattle.rz_solver.proofs.Values.{rank_list, values, values-are}
 use Rattle.rz_solver.proofs.solver.decide.Goals as goal
 

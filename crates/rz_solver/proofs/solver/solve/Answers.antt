@@ -5,13 +5,13 @@ use Rattle.rz_rules.specs.Structural.{formed, holds}
 use Rattle.rz_rules.specs.Tree.{Tree, tree_of}
 use Rattle.rz_rules.specs.Validity.{occurring}
 use Rattle.rz_pool.specs.Pool as pool
-use Rattle.rz_laws.specs.SmallOrders.{IsSequent}
-use Rattle.rz_laws.proofs.Scoping.{scoped_sequent}
+use Rattle.rz_metatheory.specs.SmallOrders.{IsSequent}
+use Rattle.rz_metatheory.proofs.Scoping.{scoped_sequent}
 use Rattle.rz_log.specs.declared.world.World.{World}
 use Rattle.rz_log.specs.Entail.{Refutes}
 use Rattle.rz_log.specs.World.{Says, context_at}
 use Rattle.rz_log.proofs.Worlds.{grows_pool, says_grown, sound_pool}
-use Rattle.rz_proof.specs.Proving.{Proves}
+use Rattle.rz_tope_proof.specs.Proving.{Proves}
 use Rattle.rz_solver.specs.Answer.{IsAnswer}
 use Rattle.rz_solver.proofs.Saying.{back_again, context_kept, context_of_line}
 use Rattle.rz_solver.proofs.solver.solve.Goals as goal

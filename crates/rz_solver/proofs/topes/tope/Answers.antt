@@ -5,8 +5,8 @@ use Rattle.rz_rules.specs.declared.kinds.Sort.TheVariants as sort
 use Rattle.rz_rules.specs.Tree.{sort_of, tree_of}
 use Rattle.rz_rules.specs.Cube.{binders_of, cube_two}
 use Rattle.rz_pool.proofs.Nodes.{KeepsTrees-Grows, length-Grows}
-use Rattle.rz_proof.specs.Claim.{IsClaim, tope_of}
-use Rattle.rz_proof.specs.Topes.{at_most, disjunction}
+use Rattle.rz_tope_proof.specs.Claim.{IsClaim, tope_of}
+use Rattle.rz_rules.specs.Tope.{at_most, disjunction}
 use Rattle.rz_solver.proofs.Forming.{cube_sort, point_sort, three_formed, three_sorts, two_formed, two_sorts}
 use Rattle.rz_solver.proofs.topes.tope.Goals as goal
 

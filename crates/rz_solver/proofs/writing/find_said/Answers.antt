@@ -5,8 +5,8 @@ use Rattle.rz_rules.specs.Judgment.{Statement}
 use Rattle.rz_rules.specs.Structural.{holds}
 use Rattle.rz_rules.specs.Tree.{Tree, IsTree, tree_of}
 use Rattle.rz_log.specs.World.{Says}
-use Rattle.rz_proof.specs.declared.proof.Inference.{Inference}
-use Rattle.rz_proof.specs.Claim.{IsClaim, tope_of}
+use Rattle.rz_tope_proof.specs.declared.proof.Inference.{Inference}
+use Rattle.rz_tope_proof.specs.Claim.{IsClaim, tope_of}
 use Rattle.rz_solver.specs.Writing.{context_under, inference_at, tope_said}
 use Rattle.rz_solver.proofs.Jobs.{claim_here, statement_here}
 use Rattle.rz_solver.proofs.writing.find_said.Goals as goal

@@ -9,8 +9,8 @@ use Rattle.rz_pool.proofs.Nodes.{KeepsTrees-Grows}
 use Rattle.rz_log.specs.declared.world.World.{World}
 use Rattle.rz_log.specs.World.{Grows, Says}
 use Rattle.rz_log.proofs.Worlds.{grows_pool, says_grown, sound_pool}
-use Rattle.rz_proof.specs.declared.proof.Inference.{Inference}
-use Rattle.rz_proof.specs.Claim.{IsClaim, tope_of}
+use Rattle.rz_tope_proof.specs.declared.proof.Inference.{Inference}
+use Rattle.rz_tope_proof.specs.Claim.{IsClaim, tope_of}
 use Rattle.rz_solver.specs.Writing.{context_under, inference_at, tope_said}
 use Rattle.rz_solver.proofs.Jobs.{side_claim, side_here, side_over}
 use Rattle.rz_solver.proofs.writing.open_side.Goals as goal

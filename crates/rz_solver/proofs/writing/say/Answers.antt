@@ -5,9 +5,9 @@ use Rattle.rz_rules.specs.Derivation.{Follows}
 use Rattle.rz_rules.specs.Structural.{holds}
 use Rattle.rz_rules.specs.Tree.{Tree, IsTree, tree_of}
 use Rattle.rz_log.specs.World.{Says, statements_in}
-use Rattle.rz_proof.specs.declared.proof.Inference.{Inference}
-use Rattle.rz_proof.specs.declared.proof.Reason.TheVariants as reason
-use Rattle.rz_proof.specs.Claim.{IsClaim, tope_of}
+use Rattle.rz_tope_proof.specs.declared.proof.Inference.{Inference}
+use Rattle.rz_tope_proof.specs.declared.proof.Reason.TheVariants as reason
+use Rattle.rz_tope_proof.specs.Claim.{IsClaim, tope_of}
 use Rattle.rz_solver.specs.Writing.{IsSaid, context_under, inference_at, tope_said}
 use Rattle.rz_solver.proofs.Cases.{axiom_follows, one_follows, other_job, reason_of, said_by_row, said_grown, two_follows}
 use Rattle.rz_solver.proofs.Given.{assumed_under, given_under, has_tope, hypothesis_is}

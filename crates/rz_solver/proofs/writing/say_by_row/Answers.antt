@@ -6,7 +6,7 @@ use Rattle.rz_rules.specs.Structural.{holds}
 use Rattle.rz_pool.proofs.Nodes.{KeepsTrees-Grows}
 use Rattle.rz_log.specs.World.{Says, statements_in}
 use Rattle.rz_log.proofs.Worlds.{grows_pool, sound_pool, statements_grown}
-use Rattle.rz_proof.specs.Claim.{tope_of}
+use Rattle.rz_tope_proof.specs.Claim.{tope_of}
 use Rattle.rz_solver.proofs.writing.say_by_row.Goals as goal
 
 pub returns-in_err-phi-clause-grows : goal.returns-in_err-phi-clause-grows

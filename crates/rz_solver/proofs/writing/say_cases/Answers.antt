@@ -7,8 +7,8 @@ use Rattle.rz_rules.specs.Structural.{holds}
 use Rattle.rz_rules.specs.Tree.{Tree, IsTree, tree_of}
 use Rattle.rz_log.specs.World.{statements_in}
 use Rattle.rz_log.proofs.Worlds.{grows_trans}
-use Rattle.rz_proof.specs.declared.proof.Inference.{Inference}
-use Rattle.rz_proof.specs.Claim.{IsClaim, tope_of}
+use Rattle.rz_tope_proof.specs.declared.proof.Inference.{Inference}
+use Rattle.rz_tope_proof.specs.Claim.{IsClaim, tope_of}
 use Rattle.rz_solver.specs.Writing.{IsSaid, inference_at}
 use Rattle.rz_solver.proofs.Cases.{cases_follow, cases_of, cover_job, left_job, left_side, needs_under, right_job, right_side, said_by_row, said_grown}
 use Rattle.rz_solver.proofs.Jobs.{claim_here, job_grown}

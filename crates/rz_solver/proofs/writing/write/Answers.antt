@@ -4,8 +4,8 @@ use Rattle.rz_rules.specs.Structural.{holds}
 use Rattle.rz_rules.specs.Tree.{Tree}
 use Rattle.rz_log.specs.World.{Says, context_at}
 use Rattle.rz_log.proofs.Worlds.{grows_same, grows_trans}
-use Rattle.rz_proof.specs.declared.proof.Inference.{Inference}
-use Rattle.rz_proof.specs.Proving.{Proves}
+use Rattle.rz_tope_proof.specs.declared.proof.Inference.{Inference}
+use Rattle.rz_tope_proof.specs.Proving.{Proves}
 use Rattle.rz_solver.specs.declared.writing.Place.{Place}
 use Rattle.rz_solver.specs.Writing.{Setting, IsSaid}
 use Rattle.rz_solver.proofs.Proved.{proved, tope_is}

@@ -8,8 +8,8 @@ use Rattle.rz_tope.specs.Walk.{IsWalk}
 use Rattle.rz_tope.proofs.Walking.{IsWalk-start}
 use Rattle.rz_tope.proofs.occurrences.occurring.Goals as goal
 
-pub loop-entry-init : goal.loop-entry-init
-loop-entry-init c =
+pub loop-last-init : goal.loop-last-init
+loop-last-init c =
     let ns = c.args.pool.now.nodes in
     let list = c.in_ok-list.ensures.list ∙ ap (λ (entries : List ℕ). occurrences (compared (binders_at ns entries) (tree_of ns c.args.tope))) c.deref.ensures.value in
     record {
@@ -17,16 +17,16 @@ loop-entry-init c =
       walk = IsWalk-start ns c.in_ok-entries.entries.items c.args.context c.args.tope c.requires.context c.in_ok-entries.ensures.trees c.in_ok-list.list list;
     }
 
-pub loop-entry-preserved : goal.loop-entry-preserved
-loop-entry-preserved c =
+pub loop-last-preserved : goal.loop-last-preserved
+loop-last-preserved c =
     let old = c.args.pool.now.nodes in
     let whole = occurring (tree_of old c.args.context) (tree_of old c.args.tope) in
-    let Goes : List Node → List ℕ → Type 0 = λ (nodes : List Node) (entries : List ℕ). IsWalk nodes entries whole c.loop-entry.walk → IsWalk nodes entries whole c.pass.new.self in
-    let nodes : c.loop-entry.pool.nodes ≡ old = c.loop-entry.invariant.nodes in
-    let goes : Goes c.loop-entry.pool.nodes c.deref-in-Some.result.now = c.in_ok-pass.ensures.walk whole in
+    let Goes : List Node → List ℕ → Type 0 = λ (nodes : List Node) (entries : List ℕ). IsWalk nodes entries whole c.loop-last.walk → IsWalk nodes entries whole c.pass.new.self in
+    let nodes : c.loop-last.pool.nodes ≡ old = c.loop-last.invariant.nodes in
+    let goes : Goes c.loop-last.pool.nodes c.deref-in-Some.result.now = c.in_ok-pass.ensures.walk whole in
     let goes_at : Goes old c.in_ok-entries.entries.items =
     subst (Goes old) c.deref-in-Some.ensures.value (subst (λ (nodes : List Node). Goes nodes c.deref-in-Some.result.now) nodes goes) in
     record {
       nodes = c.in_ok-pass.ensures.nodes ∙ nodes;
-      walk = goes_at c.loop-entry.invariant.walk;
+      walk = goes_at c.loop-last.invariant.walk;
     }

@@ -1,17 +1,17 @@
 use Rattle.std.proofs.Common.{length, nat_eq}
 use Rattle.std.specs.HashMap.{get}
 use Rattle.rz_pool.specs.Pool.{Grows}
-use Rattle.rz_cube.specs.Told.{IsPoints}
-use Rattle.rz_cube.proofs.Telling.{IsTelling}
+use Rattle.rz_cube.specs.Cached.{IsPoints}
+use Rattle.rz_cube.proofs.Caching.{IsCaching}
 use Rattle.rz_tope.specs.Tope.{HasAnswer, truth_in}
 use Rattle.rz_tope.proofs.truths.truth_over.Given as goal
 
--- the ids that are left are still to be told of, and the pool grew
+-- the ids that are left are still to be cached, and the pool grew
 abbrev pub invariant-loop-part : goal.invariant-loop-part
 invariant-loop-part l = record {
   points : IsPoints l.pool.nodes l.points;
   grows : Grows l.initial.pool.nodes l.pool.nodes;
-  telling : IsTelling l.initial.pool.nodes l.tope (HasAnswer (truth_in l.ranks) l.pool.nodes l.entries l.points (get nat_eq l.table)) l.parts.items;
+  caching : IsCaching l.initial.pool.nodes l.tope (HasAnswer (truth_in l.ranks) l.pool.nodes l.entries l.points (get nat_eq l.table)) l.parts.items;
 }
 
 abbrev pub decreases-loop-part : goal.decreases-loop-part

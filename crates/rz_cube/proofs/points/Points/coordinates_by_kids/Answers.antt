@@ -4,21 +4,21 @@ use Rattle.rz_rules.specs.declared.coordinates.Coord.{Coord}
 use Rattle.rz_rules.specs.Tree.{tree_of}
 use Rattle.rz_rules.specs.Coordinate.{coordinates_of_variable, left_width}
 use Rattle.rz_cube.specs.Point.{binders_at}
-use Rattle.rz_cube.proofs.ToldPoints.{entry_told, variable_list, zero_list, one_list, pair_list, left_list, right_list, kid_told, kids_told, kid_is, first_is, second_is, is_told}
+use Rattle.rz_cube.proofs.CachedPoints.{entry_cached, variable_list, zero_list, one_list, pair_list, left_list, right_list, kid_cached, kids_cached, kid_is, first_is, second_is, is_cached}
 use Rattle.rz_cube.proofs.points.Points.coordinates_by_kids.Goals as goal
 
 pub point-requires : goal.point-requires
-point-requires c = is_told c.args.pool.now.nodes c.args.entries.now c.args.self.now c.two_kids-s.result.0 (kids_told c.args.pool.now.nodes c.args.entries.now c.args.self.now c.args.id c.node-node.result.now c.requires.kids c.node-node.ensures.node c.two_kids-s.result.0 c.two_kids-s.result.1 c.two_kids-s.ensures).0
+point-requires c = is_cached c.args.pool.now.nodes c.args.entries.now c.args.self.now c.two_kids-s.result.0 (kids_cached c.args.pool.now.nodes c.args.entries.now c.args.self.now c.args.id c.node-node.result.now c.requires.kids c.node-node.ensures.node c.two_kids-s.result.0 c.two_kids-s.result.1 c.two_kids-s.ensures).0
 
 pub point-requires-in-PointPair : goal.point-requires-in-PointPair
-point-requires-in-PointPair c = is_told c.args.pool.now.nodes c.args.entries.now c.args.self.now c.two_kids-s.result.1 (kids_told c.args.pool.now.nodes c.args.entries.now c.args.self.now c.args.id c.node-node.result.now c.requires.kids c.node-node.ensures.node c.two_kids-s.result.0 c.two_kids-s.result.1 c.two_kids-s.ensures).1
+point-requires-in-PointPair c = is_cached c.args.pool.now.nodes c.args.entries.now c.args.self.now c.two_kids-s.result.1 (kids_cached c.args.pool.now.nodes c.args.entries.now c.args.self.now c.args.id c.node-node.result.now c.requires.kids c.node-node.ensures.node c.two_kids-s.result.0 c.two_kids-s.result.1 c.two_kids-s.ensures).1
 
 pub point-point-requires : goal.point-point-requires
-point-point-requires c = is_told c.args.pool.now.nodes c.args.entries.now c.args.self.now c.one_kid.result (kid_told c.args.pool.now.nodes c.args.entries.now c.args.self.now c.args.id c.node-node.result.now c.requires.kids c.node-node.ensures.node c.one_kid.result c.one_kid.ensures)
+point-point-requires c = is_cached c.args.pool.now.nodes c.args.entries.now c.args.self.now c.one_kid.result (kid_cached c.args.pool.now.nodes c.args.entries.now c.args.self.now c.args.id c.node-node.result.now c.requires.kids c.node-node.ensures.node c.one_kid.result c.one_kid.ensures)
 
 pub point-point-requires-in-PointRight : goal.point-point-requires-in-PointRight
 point-point-requires-in-PointRight c =
-    is_told c.args.pool.now.nodes c.args.entries.now c.args.self.now c.one_kid-in-PointRight.result (kid_told c.args.pool.now.nodes c.args.entries.now c.args.self.now c.args.id c.node-node.result.now c.requires.kids c.node-node.ensures.node c.one_kid-in-PointRight.result c.one_kid-in-PointRight.ensures)
+    is_cached c.args.pool.now.nodes c.args.entries.now c.args.self.now c.one_kid-in-PointRight.result (kid_cached c.args.pool.now.nodes c.args.entries.now c.args.self.now c.args.id c.node-node.result.now c.requires.kids c.node-node.ensures.node c.one_kid-in-PointRight.result c.one_kid-in-PointRight.ensures)
 
 pub width_of_left-requires : goal.width_of_left-requires
 width_of_left-requires c = (kid_is c.args.pool.now.nodes c.args.entries.now c.args.self.now c.args.id c.node-node.result.now c.requires.kids c.node-node.ensures.node c.one_kid.result c.one_kid.ensures c.point-point.result.now c.point-point.ensures).cube.there
@@ -36,10 +36,10 @@ pub returns-in-PointVariable : goal.returns-in-PointVariable
 returns-in-PointVariable c =
     let ns = c.args.pool.now.nodes in
     let variable = c.node-node.result.now.number in
-    let told = entry_told ns c.args.entries.now variable c.requires.entries in
+    let cached = entry_cached ns c.args.entries.now variable c.requires.entries in
     subst (λ (of : List Coord). IfOk c.variable_coordinates.result (λ list. list ≡ of))
     (ap (λ (cube : Option ℕ). coordinates_of_variable variable (option_map (tree_of ns) cube)) c.entry_cube-cube.ensures
-    ∙ ap (coordinates_of_variable variable) (sym told.is) ∙ sym (variable_list c.args.pool.now.nodes (binders_at c.args.pool.now.nodes c.args.entries.now) c.args.id c.node-node.result.now c.node-node.ensures.tree c.node-node.ensures.form c.in-PointVariable.is))
+    ∙ ap (coordinates_of_variable variable) (sym cached.is) ∙ sym (variable_list c.args.pool.now.nodes (binders_at c.args.pool.now.nodes c.args.entries.now) c.args.id c.node-node.result.now c.node-node.ensures.tree c.node-node.ensures.form c.in-PointVariable.is))
     c.variable_coordinates.ensures
 
 pub returns-in-PointPair : goal.returns-in-PointPair

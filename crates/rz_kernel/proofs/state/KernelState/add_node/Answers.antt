@@ -1,8 +1,8 @@
 use Rattle.std.proofs.Common.{◌<◌, ℕ, sym, subst, length, All, arith}
 use Rattle.std.proofs.lemmas.List.Elements.{All-push}
 use Rattle.rz_pool.proofs.Nodes.{length-Grows}
-use Rattle.rz_scope.proofs.Growing.{IsKnown-Grows}
-use Rattle.rz_kernel.proofs.Adding.{state_with_tree, lines_over}
+use Rattle.rz_context.proofs.Growing.{IsKnown-Grows}
+use Rattle.rz_kernel.proofs.Adding.{state_with_tree, all_over}
 use Rattle.rz_kernel.proofs.state.KernelState.add_node.Goals as goal
 
 pub returns-clause-tree : goal.returns-clause-tree
@@ -21,6 +21,6 @@ returns-clause-state c =
       places = subst (λ places. All (λ place. place < length c.make.new.self.nodes) places) (sym c.in_ok-push.ensures.items)
           (All-push (λ (place : ℕ). place < length c.make.new.self.nodes) state.places.items c.in_ok-place.place
           (λ k d lt. omega (arith, longer, c.requires.state.places k d lt)) made.within);
-      lines = lines_over state.pool.nodes c.make.new.self.nodes made.grows longer state.lines.items c.requires.state.lines;
+      said = all_over state.pool.nodes c.make.new.self.nodes made.grows longer state.said.items c.requires.state.said;
       known = IsKnown-Grows state.pool.nodes c.make.new.self.nodes made.grows state.known c.requires.state.known;
     }

@@ -1,5 +1,0 @@
-use Rattle.std.proofs.Common.{◌≡◌, ◌++◌, replicate, None}
-use Rattle.rz_kernel_rows.proofs.find.expect_unknown.Given as goal
-
-abbrev pub invariant-loop-made : goal.invariant-loop-made
-invariant-loop-made l = l.expected.items ≡ replicate l.made None ++ l.fn.expected.items

@@ -1,5 +1,0 @@
-use Rattle.rz_laws.proofs.Files.{claims_derived}
-use Rattle.rz_laws.proofs.laws.claims_are_derived.Goals as goal
-
-pub returns : goal.returns
-returns c = claims_derived

@@ -1,6 +1,0 @@
-use Rattle.std.proofs.Common.{◌≡◌, take}
-use Rattle.rz_question.specs.Sequent.{point_binders}
-use Rattle.rz_question.proofs.topes.point_binders.Given as goal
-
-abbrev pub invariant-loop : goal.invariant-loop
-invariant-loop l = l.binders ≡ point_binders (take l.counter l.names)

@@ -1,5 +1,0 @@
-use Rattle.rz_reading.proofs.Asks.{at_most_three}
-use Rattle.rz_reading.proofs.laws.asks.Goals as goal
-
-pub returns : goal.returns
-returns c = at_most_three

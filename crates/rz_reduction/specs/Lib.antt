@@ -1,0 +1,10 @@
+pub mod Entailment
+pub mod Terms
+pub mod Views
+pub mod Piece
+pub mod Step
+pub mod Place
+pub mod Outcome
+pub mod Run
+pub mod Comparison
+pub mod Turn

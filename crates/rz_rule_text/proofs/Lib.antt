@@ -1,0 +1,12 @@
+pub mod Taking
+pub mod Stacks
+pub mod Putting
+pub mod Substituting
+pub mod Judging
+pub mod Whole
+pub mod Over
+pub mod Walks
+pub mod Tests
+pub mod Steps
+pub mod KnownSteps
+pub mod Found

@@ -1,7 +1,0 @@
-pub mod Measures
-pub mod Kept
-pub mod EntryCubes
-pub mod Untold
-pub mod Growing
-pub mod Judging
-pub mod Noting

@@ -1,4 +1,0 @@
-pub mod Entry
-pub mod Cubes
-pub mod Place
-pub mod Knowledge

@@ -1,7 +1,0 @@
-use Rattle.std.proofs.Common.{◌≡◌, ◌+◌, drop}
-use Rattle.rz_sequent.specs.Placed.{position}
-use Rattle.rz_sequent.proofs.places.position.Given as goal
-
--- it stands as far behind as it does in what is left
-abbrev pub invariant-loop-position : goal.invariant-loop-position
-invariant-loop-position l = position l.list l.coordinate ≡ l.position + position (drop l.position l.list) l.coordinate

@@ -1,5 +1,0 @@
-use Rattle.rz_spell.proofs.Taking.{IsTaken}
-use Rattle.rz_spell.proofs.text.take_known.Given as goal
-
-abbrev pub invariant-loop-taken : goal.invariant-loop-taken
-invariant-loop-taken l = IsTaken l.fn.trees.items l.taken l.trees.items l.kids l.known

@@ -1,0 +1,17 @@
+use Rattle.std.proofs.Common.{refl}
+use Rattle.rz_rules.specs.Tree.{tree_of}
+use Rattle.rz_tope_proof.specs.declared.proof.Reason.TheVariants as reason
+use Rattle.rz_tope_normal.proofs.Inferring.{extends, axiom_proves}
+use Rattle.rz_tope_normal.proofs.steps.by_axiom.Goals as goal
+
+pub returns-clause-proves : goal.returns-clause-proves
+returns-clause-proves c =
+    axiom_proves c.args._pool.now.nodes (tree_of c.args._pool.now.nodes c.args._context) c.args.proof.now c.infer.new.self c.args.claim
+    c.requires.claim (reason.Axiom c.args.row)
+    c.in_ok-step.ensures.added c.in_ok-step.step c.in_ok-step.ensures.number c.args.row refl c.requires.infers
+
+pub returns-clause-extends : goal.returns-clause-extends
+returns-clause-extends c =
+    extends c.args._pool.now.nodes (tree_of c.args._pool.now.nodes c.args._context) c.args.proof.now c.infer.new.self c.args.claim c.requires.claim
+    (reason.Axiom c.args.row)
+    c.in_ok-step.ensures.added c.in_ok-step.step c.in_ok-step.ensures.number

@@ -1,0 +1,9 @@
+use Rattle.std.proofs.Common.{refl}
+use Rattle.rz_tope_proof.specs.declared.proof.Reason.TheVariants as reason
+use Rattle.rz_tope_proof.proofs.Proving.{by_axiom}
+use Rattle.rz_tope_search.proofs.steps.infer_axiom.Goals as goal
+
+pub returns-clause-shows : goal.returns-clause-shows
+returns-clause-shows c at tope is_claim says infers =
+    by_axiom at.nodes at.context c.args.proof.now c.infer.new.self c.in_ok-step.step c.args.claim (reason.Axiom c.args.row) tope
+    c.in_ok-step.ensures.number c.in_ok-step.ensures.added is_claim says at.assumed c.args.row refl infers
