@@ -4,8 +4,7 @@ use Rattle.std.specs.Fmt.{decimal}
 use Rattle.std.specs.List.{flat_map, slice_index_or}
 use Rattle.rz_rules.specs.declared.coordinates.Coord.{Coord}
 use Rattle.rz_rules.specs.declared.coordinates.Coord.TheVariants.{Zero, One, Of}
-use Rattle.rz_rules.specs.Validity.{RankList}
-use Rattle.rz_log.specs.Entail.{coordinates_limit}
+use Rattle.rz_rules.specs.Validity.{RankList, coordinates_limit}
 use Rattle.rz_io.specs.Device.{Told, MayRead}
 use Rattle.rz_kernel.specs.Answer.{KernelSays}
 use Rattle.rz_kernel.specs.declared.answer.KernelAnswer.{KernelAnswer}

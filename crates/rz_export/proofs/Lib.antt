@@ -8,3 +8,4 @@ mod Needing
 mod Vain
 mod Pushes
 mod Searches
+mod OnePart

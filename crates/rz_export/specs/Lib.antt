@@ -1,3 +1,4 @@
 pub mod Claims
 pub mod Needs
 pub mod Moves
+pub mod Extract

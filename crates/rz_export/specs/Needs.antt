@@ -6,6 +6,7 @@ use Rattle.rz_rules.specs.declared.judgments.Line.{Line}
 use Rattle.rz_rules.specs.Judgment.{ids_of}
 use Rattle.rz_rules.specs.File.{statement_at}
 use Rattle.rz_drv.specs.declared.parts.Part.{Part}
+use Rattle.rz_drv.specs.Part.{spelling}
 use Rattle.rz_log.specs.declared.world.World.{World}
 use Rattle.rz_log.specs.Log.{statements_of}
 use Rattle.rz_log.specs.Reachable.{IsReachable, IsRising}
@@ -35,6 +36,10 @@ HasNoVainLine part =
 abbrev pub HasNoVainNode : Part → Type 0
 HasNoVainNode part =
     (id : ℕ) → id < length part.nodes → IsNeeded part.nodes (concat (map (λ line. ids_of line.says) part.lines)) id
+
+-- bytes that spell a part in which nothing is in vain
+abbrev pub HasNothingInVain : List ℕ → Type 0
+HasNothingInVain bytes = (part : Part) × (bytes ≡ spelling part) × HasNoVainLine part × HasNoVainNode part
 
 -- the lines of a part say of trees, one by one, what the steps say that are claimed and those on which they rest, in their order
 pub record HasTheSupport (w : World) (roots : List ℕ) (part : Part) : Type 0 where

@@ -3,6 +3,7 @@
 
 mod claims;
 mod extract;
+pub mod laws;
 mod moves;
 mod needs;
 

@@ -1,7 +1,7 @@
 //! What each step of a sound world keeps. A function of this file does nothing: its clause is the law.
 
 ghost use Rattle.std.specs.Prelude.{ℕ, ◌≤◌, length};
-ghost use Rattle.rz_rules.specs.Judgment.{Statement};
+ghost use Rattle.rz_rules.specs.Judgment.{IsStatement, Statement};
 ghost use Rattle.rz_metatheory.specs.Derivation.{Derives};
 ghost use Rattle.rz_metatheory.specs.Scope.{IsScopedStatement};
 ghost use Rattle.rz_log.specs.World.{EndsBelow, Grows, IsSound, Says};
@@ -12,6 +12,12 @@ ghost use Rattle.rz_log.specs.declared.world.World.{World};
 pub fn derivation()
     ensures { (w : World) (step : ℕ) (says : Statement) → IsSound w → Says w step says
         → Derives says }
+{}
+
+/// It has its form: its context and its parts are trees of their sorts.
+pub fn statements()
+    ensures { (w : World) (step : ℕ) (says : Statement) → IsSound w → Says w step says
+        → IsStatement says }
 {}
 
 /// It is well scoped: the topes of its context are over what stands before them, each index points

@@ -1,6 +1,6 @@
 //! A pool and a log over it.
 
-ghost use Rattle.std.specs.Prelude.{◌≡◌, ◌≤◌, ◌∷◌, ◌++◌, [], length, take, IfOk, OnOk};
+ghost use Rattle.std.specs.Prelude.{◌≡◌, ◌≤◌, ◌∷◌, ◌++◌, [], length, take, IfOk, OnErr, OnOk};
 ghost use Rattle.rz_rules.specs.Derivation.{Follows};
 ghost use Rattle.rz_rules.specs.Judgment.{statement};
 ghost use Rattle.rz_rules.specs.Tree.{trees_in};
@@ -49,7 +49,8 @@ impl World {
     }
 
     /// A step that says what a line says: the first that says it already, else a new one, with this
-    /// line. The line follows by its row from lines of the log; nothing is tested.
+    /// line. The line follows by its row from lines of the log; nothing is tested. Where memory runs
+    /// out, the world is as it was.
     pub fn add(&mut self, line: Line) -> Result<u64, OutOfMemory>
         requires sound { IsSound self.old }
         requires over { IsLineOver self.old.pool.nodes line }
@@ -60,6 +61,7 @@ impl World {
         ensures adds { IfOk result (Adds self.old.log line self.new.log) }
         ensures nodes { self.new.pool.nodes ≡ self.old.pool.nodes }
         ensures grows { Grows self.old self.new }
+        ensures err { OnErr result (self.new.log ≡ self.old.log) }
     {
         match self.log.find(line.says) {
             Some(step) => Ok(step),
@@ -82,6 +84,7 @@ impl World {
         ensures lines { OnOk result (self.new.log ≡ self.old.log ++ line ∷ []) }
         ensures nodes { self.new.pool.nodes ≡ self.old.pool.nodes }
         ensures grows { Grows self.old self.new }
+        ensures err { OnErr result (self.new.log ≡ self.old.log) }
     {
         let step = self.log.push(&self.pool, line)?;
         Ok(step)

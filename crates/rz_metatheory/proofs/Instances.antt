@@ -3,6 +3,7 @@
 use Rattle.std.proofs.Common.{◌≡◌, ℕ, ◌<◌, ◌^◌, List, [], ◌∷◌, Some, true, false, true≢false, refl, sym, ap, ◌∙◌, arith}
 use Rattle.std.specs.Prelude.{slice_get, ◌==◌, if◌then◌else◌}
 use Rattle.std.proofs.lemmas.List.Elements.{All-nil, All-from_recursion}
+use Rattle.rz_rules.specs.declared.coordinates.Coord.{Coord}
 use Rattle.rz_rules.specs.declared.coordinates.Coord.TheVariants as coordinate
 use Rattle.rz_rules.specs.declared.kinds.Sort.TheVariants as sort
 use Rattle.rz_rules.specs.declared.kinds.Kind.TheVariants as kind
@@ -229,13 +230,32 @@ found = refl
 refuted_by_ranks : truth (binders_of square) (rank_in ranks) (at_most (point 1) (point 0)) ≡ false
 refuted_by_ranks = refl
 
--- A tope that is not over the context has numbers that refute it, but no coordinates, so the only rank list is empty and
--- makes it true.
+-- A tope that is not over the context has numbers for its points that refute it, but no coordinates, so that each numbering
+-- of coordinates makes it true, and so does the only rank list, which is empty.
 refuted_unscoped : is_true (binders_of empty) numbers (at_most (point 1) (point 0)) ≡ false
 refuted_unscoped = refl
+
+true_unscoped : (number : Coord → ℕ) → truth (binders_of empty) number (at_most (point 1) (point 0)) ≡ true
+true_unscoped number = refl
 
 valid_unscoped : is_valid empty (at_most (point 1) (point 0)) ≡ true
 valid_unscoped = refl
 
 not_over : IsTopeOver (binders_of empty) (at_most (point 1) (point 0)) → ⊥
 not_over over = absurd (let e = over.0 in cc)
+
+-- The law asks for no scope: where only one of two points of a comparison is in scope, the other's number is 0, and the rank
+-- list of the one coordinate refutes that it is at most that.
+abbrev four : Coord → ℕ
+four coordinate.Zero = 0
+four coordinate.One = 9
+four (coordinate.Of variable way) = 4
+
+refuted_half : truth (binders_of line) four (at_most (point 0) (point 1)) ≡ false
+refuted_half = refl
+
+found_half : shrunk_list four (occurring line (at_most (point 0) (point 1))) (occurring line (at_most (point 0) (point 1))) ≡ (coordinate.Of 0 [], 1) ∷ []
+found_half = refl
+
+refuted_half_by_ranks : truth (binders_of line) (rank_in ((coordinate.Of 0 [], 1) ∷ [])) (at_most (point 0) (point 1)) ≡ false
+refuted_half_by_ranks = refl

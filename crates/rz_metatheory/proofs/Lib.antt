@@ -11,6 +11,7 @@ pub mod rows
 pub mod Structural
 pub mod Derived
 pub mod Scoping
+pub mod Shapes
 pub mod RankLists
 pub mod SmallOrders
 pub mod Free

@@ -1,4 +1,4 @@
--- Rank lists are valuations: what all valuations make true is valid.
+-- Rank lists are numbers of coordinates, and these are valuations: what all of either make true is valid.
 use Rattle.std.proofs.Common.{◌≡◌, ℕ, suc, ◌+◌, ◌≤◌, List, [], ◌∷◌, ◌++◌, length, take, drop, map, All, Option, Some, None, IsTrue, ◌&&◌, refl, sym, ap, ◌∙◌, subst, arith}
 use Rattle.std.specs.Prelude.{slice_get, unwrap_or, IfSome}
 use Rattle.std.proofs.lemmas.List.Elements.{All-map}
@@ -13,8 +13,8 @@ use Rattle.rz_rules.specs.Tree.{Tree, At, Nil, And}
 use Rattle.rz_rules.specs.Cube.{Binders, cubes_of, binders_of}
 use Rattle.rz_rules.specs.Coordinate.{paths, width, left_width, coordinates_of_variable, coordinates, are_same, raised}
 use Rattle.rz_rules.specs.Tope.{cube_of}
-use Rattle.rz_rules.specs.Validity.{RankList, rank_in, truth_at, truth, are_true, IsValid}
-use Rattle.rz_metatheory.specs.SmallOrders.{IsRefutation, IsSmallRefutation}
+use Rattle.rz_rules.specs.Validity.{RankList, rank_in, truth_at, truth, are_true, occurring, IsRankList, IsValid, Refutes}
+use Rattle.rz_metatheory.specs.SmallOrders.{IsNumbering, IsRefutedBy, IsTrueInAllNumbers, IsRefuted}
 use Rattle.rz_metatheory.specs.Place.{Valuation, FitsCube, FitsCubes, value, is_true, outside, allows_in, place_of, IsAllowed, Entails}
 
 -- a cube has as many ways to leaves that are the directed interval as it has such leaves
@@ -94,26 +94,42 @@ rank_small ranks all (coordinate.Of variable path) = by (lookup (are_same (coord
   by None h = omega arith
   by (Some n) h = h
 
--- a rank list that makes the topes of a context true is a valuation that is allowed there
-list_allowed : (context : Tree) (ranks : RankList) → All (λ pair. pair.1 ≤ length ranks + 1) ranks → IsTrue (are_true (rank_in ranks) context)
-    → IsAllowed (place_of context) (valuation_of (rank_in ranks) (cubes_of context))
-list_allowed context ranks small holds = record {
-  fits = fits_of (cubes_of context) (rank_in ranks) (omega arith) (rank_small ranks small);
-  allowed = allows_of context (rank_in ranks) refl ∙ holds;
+-- a rank list gives a number to each coordinate
+pub ranks_number : (coordinates : List Coord) (ranks : RankList) → IsRankList coordinates ranks → IsNumbering (rank_in ranks)
+ranks_number coordinates ranks list = record { first = refl; ends_differ = omega arith; small = rank_small ranks list.small }
+
+-- so one that refutes is numbers of coordinates that do
+pub ranks_refute : (context tope : Tree) (ranks : RankList) → Refutes context tope ranks → IsRefutedBy context tope (rank_in ranks)
+ranks_refute context tope ranks refutes = record {
+  numbering = ranks_number (occurring context tope) ranks refutes.ranks_are;
+  context_is_true = refutes.context_is_true;
+  tope_is_false = refutes.tope_is_false;
+}
+
+pub everywhere_valid : (context tope : Tree) → IsTrueInAllNumbers context tope → IsValid context tope
+everywhere_valid context tope all ranks list holds = all (rank_in ranks) (ranks_number (occurring context tope) ranks list) holds
+
+-- numbers of coordinates that make the topes of a context true are a valuation that is allowed there
+numbers_allowed : (context : Tree) (number : Coord → ℕ) → IsNumbering number → IsTrue (are_true number context)
+    → IsAllowed (place_of context) (valuation_of number (cubes_of context))
+numbers_allowed context number numbering holds = record {
+  fits = fits_of (cubes_of context) number numbering.ends_differ numbering.small;
+  allowed = allows_of context number numbering.first ∙ holds;
 }
 
 -- so what all valuations of a context make true is valid
 pub entails_valid : (context tope : Tree) → Entails (place_of context) tope → IsValid context tope
 entails_valid context tope entails ranks list holds =
     sym (truth_of (binders_of context) (rank_in ranks) refl tope)
-    ∙ entails (valuation_of (rank_in ranks) (cubes_of context)) (list_allowed context ranks list.small holds)
+    ∙ entails (valuation_of (rank_in ranks) (cubes_of context))
+    (numbers_allowed context (rank_in ranks) (ranks_number (occurring context tope) ranks list) holds)
 
--- and a rank list that refutes is a valuation that does
-pub large_refutation : (context tope : Tree) (ranks : RankList) → IsSmallRefutation context tope ranks → (valuation : Valuation) × IsRefutation context tope valuation
-large_refutation context tope ranks refutes = (
-  valuation_of (rank_in ranks) (cubes_of context),
+-- and numbers of coordinates that refute are a valuation that does
+pub large_refutation : (context tope : Tree) (number : Coord → ℕ) → IsRefutedBy context tope number → IsRefuted context tope
+large_refutation context tope number refuted = (
+  valuation_of number (cubes_of context),
   record {
-    allowed = list_allowed context ranks refutes.list.small refutes.allowed;
-    untrue = truth_of (binders_of context) (rank_in ranks) refl tope ∙ refutes.untrue;
+    allowed = numbers_allowed context number refuted.numbering refuted.context_is_true;
+    untrue = truth_of (binders_of context) number refuted.numbering.first tope ∙ refuted.tope_is_false;
   },
 )

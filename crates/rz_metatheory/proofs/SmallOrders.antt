@@ -1,4 +1,4 @@
--- Small orders: where some valuation refutes, some rank list does.
+-- Small orders: where numbers refute, some rank list does.
 use Rattle.std.proofs.Common.{◌≡◌, ℕ, zero, suc, ◌+◌, ◌<◌, ◌≤◌, List, [], ◌∷◌, ◌++◌, length, take, drop, map, All, Option, Some, None, Bool, true, false, true≢false, inl, inr, get_or, ◌&&◌, cond, refl, sym, ap, ◌∙◌, subst, arith}
 use Rattle.std.specs.Prelude.{slice_get, slice_index, unwrap_or, option_and_then, ◌==◌, ◌||◌, not, nat_le, nat_lt, nat_eq, filter, if◌then◌else◌}
 use Rattle.std.specs.Map.{lookup}
@@ -18,7 +18,7 @@ use Rattle.rz_rules.specs.Coordinate.{paths, width, left_width, coordinates_of_v
 use Rattle.rz_rules.specs.Tope.{cube_of, IsTopeOver}
 use Rattle.rz_rules.specs.Validity.{RankList, rank_in, truth, are_true, compared, compared_in, distinct, occurring, IsRankList, IsValid}
 use Rattle.rz_metatheory.specs.Place.{Entails, place_of, Valuation, FitsCubes, value, is_true, outside, allows_in}
-use Rattle.rz_metatheory.specs.SmallOrders.{HasTopesOver, IsRefutation, IsSmallRefutation}
+use Rattle.rz_metatheory.specs.SmallOrders.{IsRefutedBy, IsRefutedByRanks, IsTrueInAllNumbers, HasTopesOver, IsSequent, IsRefutation}
 use Rattle.rz_metatheory.proofs.Values.{then_some}
 use Rattle.std.proofs.lemmas.Bool.{cases_lt}
 use Rattle.std.proofs.lemmas.List.Elements.{All-head, All-map, All-take, All-drop}
@@ -422,32 +422,50 @@ numbered_small cubes valuation fits (coordinate.Of variable way) = by (slice_get
   by None e = omega arith
   by (Some cube) e = at_path_small valuation.last cube (valuation.values variable) way (fits.each variable cube e).small
 
-pub small_refutation : (context tope : Tree) → HasTopesOver context → IsTopeOver (binders_of context) tope
-    → (valuation : Valuation) → IsRefutation context tope valuation → (ranks : RankList) × IsSmallRefutation context tope ranks
-small_refutation context tope topes over valuation refutes =
-    let cubes = cubes_of context in
-    let fits = refutes.allowed.fits in
-    let rank = numbered valuation cubes in
-    let whole = compared_in context ++ compared (binders_of context) tope in
+-- some rank list refutes where any numbers of coordinates do
+pub small_refutation : (context tope : Tree) (number : Coord → ℕ) → IsRefutedBy context tope number → IsRefutedByRanks context tope
+small_refutation context tope number refuted =
+    let all_compared = compared_in context ++ compared (binders_of context) tope in
     let list = occurring context tope in
-    let ranks = shrunk_list rank list list in
-    let order = shrunk_order rank list refl fits.ends_differ (numbered_small cubes valuation fits) in
-    let all = known whole in (
+    let ranks = shrunk_list number list list in
+    let numbering = refuted.numbering in
+    let order = shrunk_order number list numbering.first numbering.ends_differ numbering.small in
+    let all = known all_compared in (
       ranks,
       record {
-        list = shrunk_is_list rank list;
-        allowed = are_true_alike context (Known list) rank (rank_in ranks) order (each_left (Known list) (compared_in context) (compared (binders_of context) tope) all)
-            ∙ sym (allows_numbered context topes valuation fits) ∙ refutes.allowed.allowed;
-        untrue = truth_alike (Known list) rank (rank_in ranks) order (binders_of context) tope (each_right (Known list) (compared_in context) (compared (binders_of context) tope) all)
-            ∙ sym (truth_numbered (binders_of context) valuation fits tope over) ∙ refutes.untrue;
+        ranks_are = shrunk_is_list number list;
+        context_is_true = are_true_alike context (Known list) number (rank_in ranks) order (each_left (Known list) (compared_in context) (compared (binders_of context) tope) all)
+            ∙ refuted.context_is_true;
+        tope_is_false = truth_alike (Known list) number (rank_in ranks) order (binders_of context) tope (each_right (Known list) (compared_in context) (compared (binders_of context) tope) all)
+            ∙ refuted.tope_is_false;
       },
     )
 
+-- so what is valid is true in all numbers of coordinates
+pub valid_everywhere : (context tope : Tree) → IsValid context tope → IsTrueInAllNumbers context tope
+valid_everywhere context tope valid number numbering holds = by (truth (binders_of context) number tope) refl where
+  by : (b : Bool) → truth (binders_of context) number tope ≡ b → truth (binders_of context) number tope ≡ true
+  by true e = e
+  by false e =
+      let small = small_refutation context tope number (record { numbering = numbering; context_is_true = holds; tope_is_false = e }) in
+      absurd (true≢false (sym (valid small.0 small.1.ranks_are small.1.context_is_true) ∙ small.1.tope_is_false))
+
+-- where topes are over what stands before them, numbers of points are numbers of coordinates
+pub numbers_refute : (context tope : Tree) → IsSequent context tope → (valuation : Valuation) → IsRefutation context tope valuation
+    → IsRefutedBy context tope (numbered valuation (cubes_of context))
+numbers_refute context tope sequent valuation refutes =
+    let fits = refutes.allowed.fits in record {
+      numbering = record { first = refl; ends_differ = fits.ends_differ; small = numbered_small (cubes_of context) valuation fits };
+      context_is_true = sym (allows_numbered context sequent.topes valuation fits) ∙ refutes.allowed.allowed;
+      tope_is_false = sym (truth_numbered (binders_of context) valuation fits tope sequent.over) ∙ refutes.untrue;
+    }
+
 -- so what is valid is true in all valuations
-pub valid_entails : (context tope : Tree) → HasTopesOver context → IsTopeOver (binders_of context) tope → IsValid context tope → Entails (place_of context) tope
-valid_entails context tope topes over valid valuation allowed = by (is_true (binders_of context) valuation tope) refl where
+pub valid_entails : (context tope : Tree) → IsSequent context tope → IsValid context tope → Entails (place_of context) tope
+valid_entails context tope sequent valid valuation allowed = by (is_true (binders_of context) valuation tope) refl where
   by : (b : Bool) → is_true (binders_of context) valuation tope ≡ b → is_true (binders_of context) valuation tope ≡ true
   by true e = e
   by false e =
-      let small = small_refutation context tope topes over valuation (record { allowed = allowed; untrue = e }) in
-      absurd (true≢false (sym (valid small.0 small.1.list small.1.allowed) ∙ small.1.untrue))
+      let numbers = numbered valuation (cubes_of context) in
+      let refuted = numbers_refute context tope sequent valuation (record { allowed = allowed; untrue = e }) in
+      absurd (true≢false (sym (valid_everywhere context tope valid numbers refuted.numbering refuted.context_is_true) ∙ refuted.tope_is_false))

@@ -5,11 +5,11 @@ use Rattle.rz_rules.specs.declared.kinds.Kind.TheVariants.{Constant, Application
 use Rattle.rz_rules.specs.Tree.{Tree, At, Nil, And}
 use Rattle.rz_rules.specs.Structural.{universe}
 use Rattle.rz_rules.specs.Same.{same_tree}
-use Rattle.rz_reduction.specs.Entailment.{Entailment, Valid, Invalid, TooMany, entailment}
+use Rattle.rz_rules.specs.Validity.{Entailment, Valid, Invalid, entailment}
 use Rattle.rz_reduction.specs.Terms.{put_point}
 use Rattle.rz_reduction.specs.Views.{Eliminator, Applied, FirstOf, SecondOf, Induced, AppliedAt, Introduction, Function, PairOf, ReflexivityOf, FunctionOnShape, introduction}
 use Rattle.rz_reduction.specs.Piece.{Question, question, Piece, Cubes, Topes, Points, Compared, family, extension, differs, asks, entail_each_other, points_equal}
-use Rattle.rz_reduction.specs.Step.{Redex, Normal, Contracts, Splits, Over, redex, meeting, inside, or_inside, where_valid, Next, AllAgree, Compare, Disagree, PointsDisagree, TooWide, next_piece, Ask, step_by_next, step_by_redex, step}
+use Rattle.rz_reduction.specs.Step.{Redex, Normal, Contracts, Splits, redex, meeting, inside, or_inside, where_valid, Next, AllAgree, Compare, Disagree, PointsDisagree, next_piece, Ask, step_by_next, step_by_redex, step}
 
 -- how many terms are compared
 abbrev comparisons : List Piece → ℕ
@@ -47,25 +47,25 @@ next_bound answered [] q e = absurd cc
 next_bound answered (Cubes left right ∷ pieces) q e = by (next_bound answered pieces q) (same_tree left right) e
   where
     by : (next_piece answered pieces ≡ Compare q → answered < comparisons pieces)
-        → (x : Bool) → elim x [ true ↦ next_piece answered pieces | false ↦ Disagree left right ] ≡ Compare q → answered < comparisons pieces
+        → (x : Bool) → elim x [ true ↦ next_piece answered pieces | false ↦ Disagree (Cubes left right) ] ≡ Compare q → answered < comparisons pieces
     by rest true e = rest e
     by rest false e = absurd cc
 next_bound answered (Topes C phi phi' ∷ pieces) q e = by (next_bound answered pieces q) (entail_each_other C phi phi') e
   where
     by : (next_piece answered pieces ≡ Compare q → answered < comparisons pieces)
-        → (x : Entailment) → elim x [ Valid ↦ next_piece answered pieces | Invalid ↦ Disagree phi phi' | TooMany count ↦ TooWide count ] ≡ Compare q
+        → (x : Entailment) → elim x [ Valid ↦ next_piece answered pieces | Invalid ↦ Disagree (Topes C phi phi') | Entailment.Over count ↦ Next.Over count ] ≡ Compare q
         → answered < comparisons pieces
     by rest Valid e = rest e
     by rest Invalid e = absurd cc
-    by rest (TooMany count) e = absurd cc
+    by rest (Entailment.Over count) e = absurd cc
 next_bound answered (Points C I s s' ∷ pieces) q e = by (next_bound answered pieces q) (points_equal C I s s') e
   where
     by : (next_piece answered pieces ≡ Compare q → answered < comparisons pieces)
-        → (x : Entailment) → elim x [ Valid ↦ next_piece answered pieces | Invalid ↦ PointsDisagree s s' | TooMany count ↦ TooWide count ] ≡ Compare q
+        → (x : Entailment) → elim x [ Valid ↦ next_piece answered pieces | Invalid ↦ PointsDisagree (Points C I s s') | Entailment.Over count ↦ Next.Over count ] ≡ Compare q
         → answered < comparisons pieces
     by rest Valid e = rest e
     by rest Invalid e = absurd cc
-    by rest (TooMany count) e = absurd cc
+    by rest (Entailment.Over count) e = absurd cc
 next_bound zero (Compared q' ∷ pieces) q e = omega arith
 next_bound (suc less) (Compared q' ∷ pieces) q e = let bound = next_bound less pieces q e in omega (arith, bound)
 
@@ -74,7 +74,7 @@ abbrev HasFew : Redex → Type 0
 HasFew Normal = Unit {0}
 HasFew (Contracts pieces tree) = comparisons pieces ≤ 3
 HasFew (Splits phi psi) = Unit {0}
-HasFew (Over count) = Unit {0}
+HasFew (Redex.Over count) = Unit {0}
 
 abbrev MayHaveFew : Option Redex → Type 0
 MayHaveFew None = Unit {0}
@@ -99,7 +99,7 @@ when_inside : (es : List Eliminator) (redex : Redex) → HasFew redex → HasFew
 when_inside es Normal few = tt
 when_inside es (Contracts pieces tree) few = few
 when_inside es (Splits phi psi) few = tt
-when_inside es (Over count) few = tt
+when_inside es (Redex.Over count) few = tt
 
 when_or_inside : (found : Option Redex) (e : Eliminator) (within : Redex) → MayHaveFew found → HasFew within → HasFew (or_inside found e within)
 when_or_inside (Some redex) e within found few = found
@@ -108,7 +108,7 @@ when_or_inside None e within found few = when_inside (e ∷ []) within few
 when_valid : (x : Entailment) (term : Tree) (otherwise : Redex) → HasFew otherwise → HasFew (where_valid x term otherwise)
 when_valid Valid term otherwise few = omega arith
 when_valid Invalid term otherwise few = few
-when_valid (TooMany count) term otherwise few = tt
+when_valid (Entailment.Over count) term otherwise few = tt
 
 redex_has_few : (C t : Tree) → HasFew (redex C t)
 redex_has_few C (At Constant number name (And A (And b Nil))) = omega arith
@@ -132,16 +132,16 @@ redex_has_few C other = tt
 by_next : (next : Next) (tree : Tree) (q : Question) → step_by_next next tree ≡ Ask q → next ≡ Compare q
 by_next AllAgree tree q e = absurd cc
 by_next (Compare q') tree q e = let same : q' ≡ q = cc in ap Compare same
-by_next (Disagree left right) tree q e = absurd cc
-by_next (PointsDisagree left right) tree q e = absurd cc
-by_next (TooWide count) tree q e = absurd cc
+by_next (Disagree piece) tree q e = absurd cc
+by_next (PointsDisagree piece) tree q e = absurd cc
+by_next (Next.Over count) tree q e = absurd cc
 
 few_asks : (redex : Redex) (answered : ℕ) (q : Question) → HasFew redex → step_by_redex redex answered ≡ Ask q → answered < 3
 few_asks Normal answered q few e = absurd cc
 few_asks (Contracts pieces tree) answered q few e =
     let bound = next_bound answered pieces q (by_next (next_piece answered pieces) tree q e) in omega (arith, few, bound)
 few_asks (Splits phi psi) answered q few e = absurd cc
-few_asks (Over count) answered q few e = absurd cc
+few_asks (Redex.Over count) answered q few e = absurd cc
 
 pub at_most_three : (C t : Tree) (answered : ℕ) (q : Question) → step C t answered ≡ Ask q → answered < 3
 at_most_three C t answered q e = few_asks (redex C t) answered q (redex_has_few C t) e

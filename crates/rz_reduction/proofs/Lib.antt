@@ -1,4 +1,5 @@
-pub mod Entailment
+pub mod Views
+pub mod Coordinates
 pub mod Place
 pub mod Asks
 pub mod Steps

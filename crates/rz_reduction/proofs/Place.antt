@@ -3,7 +3,7 @@ use Rattle.std.proofs.Common.{◌≡◌, ℕ, List, [], ◌∷◌, Some, None, r
 use Rattle.rz_rules.specs.Tree.{Tree}
 use Rattle.rz_reduction.specs.Terms.{put_point}
 use Rattle.rz_reduction.specs.Views.{Eliminator, Applied, FirstOf, SecondOf, Induced, AppliedAt, elimination, introduction, whole}
-use Rattle.rz_reduction.specs.Step.{Redex, Normal, Contracts, Splits, Over, redex, meeting, inside, or_inside, where_valid, Next, AllAgree, Compare, Disagree, PointsDisagree, TooWide, next_piece, step_by_next, step_by_redex, step}
+use Rattle.rz_reduction.specs.Step.{Redex, Normal, Contracts, Splits, redex, meeting, inside, or_inside, where_valid, Next, AllAgree, Compare, Disagree, PointsDisagree, next_piece, step_by_next, step_by_redex, step}
 use Rattle.rz_reduction.specs.Place.{IsOffFace, AreOffFaces, DoesNotMeet, step_inside}
 
 -- an eliminated term is no introduction
@@ -36,13 +36,13 @@ inside_none : (redex : Redex) → redex ≡ inside [] redex
 inside_none Normal = refl
 inside_none (Contracts pieces tree) = refl
 inside_none (Splits phi psi) = refl
-inside_none (Over count) = refl
+inside_none (Redex.Over count) = refl
 
 inside_more : (e : Eliminator) (es : List Eliminator) (redex : Redex) → inside es (inside (e ∷ []) redex) ≡ inside (e ∷ es) redex
 inside_more e es Normal = refl
 inside_more e es (Contracts pieces tree) = refl
 inside_more e es (Splits phi psi) = refl
-inside_more e es (Over count) = refl
+inside_more e es (Redex.Over count) = refl
 
 pub redex_at_place : (C t : Tree) (es : List Eliminator) → AreOffFaces C es → DoesNotMeet C t es → redex C (whole t es) ≡ inside es (redex C t)
 redex_at_place C t [] off free = inside_none (redex C t)
@@ -60,16 +60,16 @@ redex_at_meeting C t e es found off meets =
 next_inside : (next : Next) (tree : Tree) (es : List Eliminator) → step_by_next next (whole tree es) ≡ step_inside es (step_by_next next tree)
 next_inside AllAgree tree es = refl
 next_inside (Compare q) tree es = refl
-next_inside (Disagree left right) tree es = refl
-next_inside (PointsDisagree left right) tree es = refl
-next_inside (TooWide count) tree es = refl
+next_inside (Disagree piece) tree es = refl
+next_inside (PointsDisagree piece) tree es = refl
+next_inside (Next.Over count) tree es = refl
 
 step_of_inside : (redex : Redex) (es : List Eliminator) (answered : ℕ)
     → step_by_redex (inside es redex) answered ≡ step_inside es (step_by_redex redex answered)
 step_of_inside Normal es answered = refl
 step_of_inside (Contracts pieces tree) es answered = next_inside (next_piece answered pieces) tree es
 step_of_inside (Splits phi psi) es answered = refl
-step_of_inside (Over count) es answered = refl
+step_of_inside (Redex.Over count) es answered = refl
 
 pub step_at_place : (C t : Tree) (es : List Eliminator) (answered : ℕ) → AreOffFaces C es → DoesNotMeet C t es
     → step C (whole t es) answered ≡ step_inside es (step C t answered)

@@ -1,28 +1,10 @@
 -- Terms and contexts of the worked questions.
 use Rattle.std.proofs.Common.{[], ◌∷◌}
-use Rattle.rz_rules.specs.declared.kinds.Kind.TheVariants.{Zero, One, Constant, Lambda, Sigma, Pair, UnitType, Extension, ExtensionLambda, RecOr, RecBottom, EmptyContext, CubeOne, CubeTwo, Product}
+use Rattle.rz_rules.specs.declared.kinds.Kind.TheVariants.{Zero, One, Constant, RecOr, RecBottom, EmptyContext, CubeOne, CubeTwo, Product}
 use Rattle.rz_rules.specs.Tree.{Tree, At, Nil, And}
 use Rattle.rz_rules.specs.Structural.{universe, term_variable}
-use Rattle.rz_reduction.specs.Terms.{pi, application, under_cube, under_tope, under_term}
-use Rattle.rz_reduction.specs.Entailment.{at_most, point_variable}
-
-abbrev pub lambda : Tree → Tree → Tree → Tree
-lambda A B body = At Lambda 0 [] (And A (And B (And body Nil)))
-
-abbrev pub sigma : Tree → Tree → Tree
-sigma A B = At Sigma 0 [] (And A (And B Nil))
-
-abbrev pub pair : Tree → Tree → Tree → Tree → Tree
-pair A B x y = At Pair 0 [] (And A (And B (And x (And y Nil))))
-
-abbrev pub unit : Tree
-unit = At UnitType 0 [] Nil
-
-abbrev pub extension_type : Tree → Tree → Tree → Tree → Tree → Tree
-extension_type I psi A phi a = At Extension 0 [] (And I (And psi (And A (And phi (And a Nil)))))
-
-abbrev pub shape_lambda : Tree → Tree → Tree → Tree → Tree → Tree → Tree
-shape_lambda I psi A phi a body = At ExtensionLambda 0 [] (And I (And psi (And A (And phi (And a (And body Nil))))))
+use Rattle.rz_reduction.specs.Terms.{pi, lambda, application, under_cube, under_tope, under_term}
+use Rattle.rz_rules.specs.Tope.{at_most, point_variable}
 
 -- by cases of two topes
 abbrev pub cases : Tree → Tree → Tree → Tree → Tree → Tree

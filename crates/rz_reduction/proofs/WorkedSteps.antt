@@ -2,12 +2,11 @@
 use Rattle.std.proofs.Common.{◌≡◌, refl}
 use Rattle.rz_rules.specs.Tree.{Tree}
 use Rattle.rz_rules.specs.Structural.{universe, term_variable}
-use Rattle.rz_rules.specs.Tope.{equal_points}
-use Rattle.rz_reduction.specs.Entailment.{top, bottom, at_most, point_variable}
-use Rattle.rz_reduction.specs.Terms.{pi, application, first, second, identity, reflexivity, induction, extension_application, under_cube, under_tope, under_term}
+use Rattle.rz_rules.specs.Tope.{equal_points, top, bottom, at_most, point_variable}
+use Rattle.rz_reduction.specs.Terms.{pi, application, first, second, identity, reflexivity, induction, extension_application, under_cube, under_tope, under_term, lambda, sigma, pair, unit, extension_type, shape_lambda}
 use Rattle.rz_reduction.specs.Piece.{question}
-use Rattle.rz_reduction.specs.Step.{step, New, Ask, Split, Clash, Wide, NoStep}
-use Rattle.rz_reduction.proofs.Samples.{lambda, sigma, pair, unit, extension_type, shape_lambda, cases, constant, cube_one, interval, zero_end, one_end, terms, A, a, b, A', A'', square, t, s, wide, k, kA}
+use Rattle.rz_reduction.specs.Step.{Step, step, New, Ask, Split, Clash, NoStep}
+use Rattle.rz_reduction.proofs.Samples.{cases, constant, cube_one, interval, zero_end, one_end, terms, A, a, b, A', A'', square, t, s, wide, k, kA}
 
 -- ---- constants
 
@@ -206,18 +205,18 @@ wide_face f = extension_application wide top A (equal_points wide s s) a f (poin
 abbrev wide_context : Tree
 wide_context = under_cube terms wide
 
-face_too_wide : step wide_context (wide_face (shape_lambda wide top A bottom a b)) 0 ≡ Wide 9
+face_too_wide : step wide_context (wide_face (shape_lambda wide top A bottom a b)) 0 ≡ Step.Over 9
 face_too_wide = refl
 
 -- inside too, unless the face further out holds
-inner_face_too_wide : step wide_context (extension_application interval top A bottom a (wide_face b) zero_end) 0 ≡ Wide 9
+inner_face_too_wide : step wide_context (extension_application interval top A bottom a (wide_face b) zero_end) 0 ≡ Step.Over 9
 inner_face_too_wide = refl
 
 outer_face_first : step wide_context (extension_application interval top A top a (wide_face b) zero_end) 0 ≡ New a
 outer_face_first = refl
 
 -- nor does a tope that holds plainly, where the context has as many
-cases_too_wide : step (under_tope wide_context (equal_points wide s s)) (cases A top bottom a b) 0 ≡ Wide 9
+cases_too_wide : step (under_tope wide_context (equal_points wide s s)) (cases A top bottom a b) 0 ≡ Step.Over 9
 cases_too_wide = refl
 
 -- two topes that are one tree aren't asked
@@ -227,5 +226,5 @@ on_wide_shape psi = extension_application wide (equal_points wide s s) A bottom 
 one_tope : step wide_context (on_wide_shape (equal_points wide s s)) 0 ≡ New b
 one_tope = refl
 
-two_topes : step wide_context (on_wide_shape top) 0 ≡ Wide 9
+two_topes : step wide_context (on_wide_shape top) 0 ≡ Step.Over 9
 two_topes = refl

@@ -9,7 +9,9 @@ use Rattle.rz_rules.specs.declared.kinds.Kind.TheVariants.{TermVariable, Postula
 use Rattle.rz_rules.specs.Tree.{Tree, At}
 use Rattle.rz_rules.specs.Structural.{universe, term_variable}
 use Rattle.rz_rules.specs.Same.{same_tree}
-use Rattle.rz_reduction.specs.Entailment.{Valid, Invalid, TooMany, entailment, bottom, at_most, point_variable, AllInOrder, InNoOrder, TooManyToOrder, orders}
+use Rattle.rz_reduction.specs.Entailment.{Orders, AllInOrder, InNoOrder, orders}
+use Rattle.rz_rules.specs.Tope.{bottom, at_most, point_variable}
+use Rattle.rz_rules.specs.Validity.{Entailment, Valid, Invalid, entailment}
 use Rattle.rz_reduction.specs.Terms.{application, first, second, extension_application, under_cube, under_tope, under_term, put_term, raised_term, raised_family, raised_point, raised_on_shape}
 use Rattle.rz_reduction.specs.Views.{Former, FunctionType, PairType, IdentityType, ReflexivityTerm, ExtensionType, OnePointType, former, Spine, spine}
 use Rattle.rz_reduction.specs.Piece.{Question, question, Piece, Compared, family, extension, asks, spine_pieces}
@@ -24,7 +26,7 @@ immediate_answer q =
       | false ↦ elim (entailment q.context bottom) [
         | Valid ↦ Some Equal
         | Invalid ↦ None
-        | TooMany count ↦ Some (Limited limit.Coordinates)
+        | Entailment.Over count ↦ Some (Limited limit.Coordinates)
       ]
     ]
 
@@ -33,10 +35,11 @@ pub data Reach : Type 0 where
   Answered : (comparison : Comparison) → Reach
   -- the two terms as given, under each of two topes that cover the context
   Under : (first second : Tree) → Reach
-  -- these pieces
-  Parts : (pieces : List Piece) → Reach
-  -- the two terms as given, under the orders of a pair of coordinates that is in none; where there is none, they differ
-  Undecided : Reach
+  -- these pieces of two terms: as given where the clause of eta speaks, else normal ones
+  Parts : (left right : Tree) (pieces : List Piece) → Reach
+  -- no pieces of two normal terms; the two as given are compared under the orders of a pair of coordinates that is in none,
+  -- and where there is no such pair, they differ
+  Undecided : (left right : Tree) → Reach
 
 -- what is done with the tree that a run reaches; where it splits, so does the comparison
 abbrev pub after_run : End → (Tree → Reach) → Reach
@@ -91,8 +94,8 @@ stuck_pieces C one other =
 abbrev pub by_parts : Tree → Tree → Tree → Reach
 by_parts C a b =
     elim (former_pieces C (former a) (former b)) [
-      | Some pieces ↦ Parts pieces
-      | None ↦ elim (stuck_pieces C (spine a) (spine b)) [ Some pieces ↦ Parts pieces | None ↦ Undecided ]
+      | Some pieces ↦ Parts a b pieces
+      | None ↦ elim (stuck_pieces C (spine a) (spine b)) [ Some pieces ↦ Parts a b pieces | None ↦ Undecided a b ]
     ]
 
 -- The clause of normal forms: the left term is run and then the right one, and one tree is equal.
@@ -105,7 +108,7 @@ by_normal_forms below q =
 abbrev pub reach : (Question → Comparison) → Question → Reach
 reach below q =
     after_run (run below q.context q.type) (λ type. elim (eta_pieces q (former type)) [
-      | Some pieces ↦ Parts pieces
+      | Some pieces ↦ Parts q.left q.right pieces
       | None ↦ by_normal_forms below q
     ])
 
@@ -129,14 +132,14 @@ under_orders below q =
     elim (orders q.context) [
       | AllInOrder ↦ Differ
       | InNoOrder s u ↦ under_both below q (at_most s u) (at_most u s)
-      | TooManyToOrder count ↦ Limited limit.Coordinates
+      | Orders.Over count ↦ Limited limit.Coordinates
     ]
 
 -- Points that don't agree lead to the clause of orders too; a cube, a tope or a term that doesn't agree sets the two apart.
 abbrev pub by_outcome : (Question → Comparison) → Question → Outcome → Comparison
 by_outcome below q Agreed = Equal
-by_outcome below q (Fails left right) = Differ
-by_outcome below q (PointsFail left right) = under_orders below q
+by_outcome below q (Fails piece) = Differ
+by_outcome below q (PointsFail piece) = under_orders below q
 by_outcome below q (Clashing left right) = Clashes left right
 by_outcome below q (Stops limit) = Limited limit
 
@@ -144,8 +147,8 @@ by_outcome below q (Stops limit) = Limited limit
 abbrev pub conclusion : (Question → Comparison) → Question → Reach → Comparison
 conclusion below q (Answered comparison) = comparison
 conclusion below q (Under phi psi) = under_both below q phi psi
-conclusion below q (Parts pieces) = by_outcome below q (outcome_of below pieces)
-conclusion below q Undecided = under_orders below q
+conclusion below q (Parts left right pieces) = by_outcome below q (outcome_of below pieces)
+conclusion below q (Undecided left right) = under_orders below q
 
 -- Comparison with a depth: the clauses that need none; where there is none, no more; else all others, each of whose
 -- comparisons, those of the asks of their runs among them, has a depth one less.
@@ -153,3 +156,18 @@ abbrev pub conversion : ℕ → Question → Comparison
 conversion zero q = elim (immediate_answer q) [ Some comparison ↦ comparison | None ↦ Limited limit.Depth ]
 conversion (suc depth) q =
     elim (immediate_answer q) [ Some comparison ↦ comparison | None ↦ conclusion (conversion depth) q (reach (conversion depth) q) ]
+
+-- How deep a reading compares two terms, and how deep the asks of a run of its own are then compared. They are names, so
+-- that what is said of a reading does not unfold so many comparisons.
+unfoldable pub depth_of_comparison : ℕ
+depth_of_comparison = 400
+
+unfoldable pub depth_of_asks : ℕ
+depth_of_asks = 399
+
+-- the comparison and the run of a reading
+abbrev pub full_comparison : Question → Comparison
+full_comparison q = conversion depth_of_comparison q
+
+abbrev pub full_run : Tree → Tree → End
+full_run C t = run (conversion depth_of_asks) C t

@@ -4,7 +4,8 @@ use Rattle.rz_rules.specs.Tree.{Tree}
 use Rattle.rz_rules.specs.Structural.{universe}
 use Rattle.rz_rules.specs.Tope.{equal_points}
 use Rattle.rz_rules.specs.Same.{same_tree}
-use Rattle.rz_reduction.specs.Entailment.{Entailment, both_valid, entailment}
+use Rattle.rz_reduction.specs.Entailment.{both_valid}
+use Rattle.rz_rules.specs.Validity.{Entailment, entailment}
 use Rattle.rz_reduction.specs.Terms.{reflexivity, motive, motive_at, under_cube, under_tope, under_term}
 use Rattle.rz_reduction.specs.Views.{Eliminator, Applied, FirstOf, SecondOf, Induced, AppliedAt}
 
@@ -46,12 +47,22 @@ extension C I psi A phi a I' psi' A' phi' a' =
     Cubes I I' ∷ Topes (under_cube C I) psi psi' ∷ Compared (question shape A A' universe) ∷ Topes shape phi phi'
     ∷ Compared (question (under_tope shape phi) a a' A) ∷ []
 
--- the two sides of a piece are different trees
+-- the two sides of a piece
+abbrev pub left_side : Piece → Tree
+left_side (Cubes left right) = left
+left_side (Topes C left right) = left
+left_side (Points C I left right) = left
+left_side (Compared q) = q.left
+
+abbrev pub right_side : Piece → Tree
+right_side (Cubes left right) = right
+right_side (Topes C left right) = right
+right_side (Points C I left right) = right
+right_side (Compared q) = q.right
+
+-- they are different trees
 abbrev pub differs : Piece → Bool
-differs (Cubes left right) = not (same_tree left right)
-differs (Topes C left right) = not (same_tree left right)
-differs (Points C I left right) = not (same_tree left right)
-differs (Compared q) = not (same_tree q.left q.right)
+differs piece = not (same_tree (left_side piece) (right_side piece))
 
 -- The pieces without those that are one tree, of which nothing is asked. It is used for the annotations that a step meets
 -- and for two extension types alone: points and the parts of other formers are asked all the same.

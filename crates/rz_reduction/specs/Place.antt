@@ -1,10 +1,10 @@
 -- Where a term steps within eliminators around it.
 use Rattle.std.specs.Prelude.{◌≡◌, List, [], ◌∷◌, None}
 use Rattle.rz_rules.specs.Tree.{Tree}
-use Rattle.rz_reduction.specs.Entailment.{Invalid, entailment}
+use Rattle.rz_rules.specs.Validity.{Invalid, entailment}
 use Rattle.rz_reduction.specs.Terms.{put_point}
 use Rattle.rz_reduction.specs.Views.{Eliminator, AppliedAt, whole, introduction}
-use Rattle.rz_reduction.specs.Step.{meeting, Step, New, Ask, Split, Clash, Wide, NoStep}
+use Rattle.rz_reduction.specs.Step.{meeting, Step, New, Ask, Split, Clash, NoStep}
 
 -- where a function on a shape is applied to a point, the face is asked for the point, and is invalid: neither valid nor too wide
 abbrev pub IsOffFace : Tree → Eliminator → Type 0
@@ -26,5 +26,5 @@ step_inside es (New tree) = New (whole tree es)
 step_inside es (Ask q) = Ask q
 step_inside es (Split phi psi) = Split phi psi
 step_inside es (Clash left right) = Clash left right
-step_inside es (Wide count) = Wide count
+step_inside es (Step.Over count) = Step.Over count
 step_inside es NoStep = NoStep

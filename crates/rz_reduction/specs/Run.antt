@@ -3,8 +3,8 @@ use Rattle.std.specs.Prelude.{ℕ, zero, suc}
 use Rattle.rz_rules.specs.declared.verdicts.Limit.{Limit}
 use Rattle.rz_rules.specs.declared.verdicts.Limit.TheVariants.{Steps, Coordinates}
 use Rattle.rz_rules.specs.Tree.{Tree}
-use Rattle.rz_reduction.specs.Piece.{Question}
-use Rattle.rz_reduction.specs.Step.{Redex, Normal, Contracts, Splits, Over, redex, Step, New, Ask, Split, Clash, Wide, NoStep, step}
+use Rattle.rz_reduction.specs.Piece.{Question, left_side, right_side}
+use Rattle.rz_reduction.specs.Step.{Redex, Normal, Contracts, Splits, redex, Step, New, Ask, Split, Clash, NoStep, step}
 use Rattle.rz_reduction.specs.Outcome.{Comparison, Outcome, Agreed, Fails, PointsFail, Clashing, Stops, outcome_of}
 
 pub data End : Type 0 where
@@ -22,14 +22,14 @@ at_limit t (New tree) = Stopped Steps
 at_limit t (Ask q) = Stopped Steps
 at_limit t (Split first second) = Divided first second
 at_limit t (Clash left right) = Clashed left right
-at_limit t (Wide count) = Stopped Coordinates
+at_limit t (Step.Over count) = Stopped Coordinates
 at_limit t NoStep = Reached t
 
 -- where the pieces agree, the run goes on with the new tree
 abbrev pub after_pieces : Outcome → Tree → (Tree → End) → End
 after_pieces Agreed tree on = on tree
-after_pieces (Fails left right) tree on = Clashed left right
-after_pieces (PointsFail left right) tree on = Clashed left right
+after_pieces (Fails piece) tree on = Clashed (left_side piece) (right_side piece)
+after_pieces (PointsFail piece) tree on = Clashed (left_side piece) (right_side piece)
 after_pieces (Clashing left right) tree on = Clashed left right
 after_pieces (Stops limit) tree on = Stopped limit
 
@@ -37,7 +37,7 @@ abbrev pub after_redex : (Question → Comparison) → Tree → Redex → (Tree 
 after_redex below t Normal on = Reached t
 after_redex below t (Contracts pieces tree) on = after_pieces (outcome_of below pieces) tree on
 after_redex below t (Splits first second) on = Divided first second
-after_redex below t (Over count) on = Stopped Coordinates
+after_redex below t (Redex.Over count) on = Stopped Coordinates
 
 -- a run that may make so many new trees, one for each step; asks are not counted
 abbrev pub run_for : (Question → Comparison) → ℕ → Tree → Tree → End

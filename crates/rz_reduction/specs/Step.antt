@@ -4,10 +4,10 @@ use Rattle.rz_rules.specs.declared.kinds.Kind.TheVariants.{Constant, Application
 use Rattle.rz_rules.specs.Tree.{Tree, At, Nil, And}
 use Rattle.rz_rules.specs.Structural.{universe}
 use Rattle.rz_rules.specs.Same.{same_tree}
-use Rattle.rz_reduction.specs.Entailment.{Entailment, Valid, Invalid, TooMany, entailment}
+use Rattle.rz_rules.specs.Validity.{Entailment, Valid, Invalid, entailment}
 use Rattle.rz_reduction.specs.Terms.{put_term, put_point}
 use Rattle.rz_reduction.specs.Views.{Eliminator, Applied, FirstOf, SecondOf, Induced, AppliedAt, whole, Introduction, Function, PairOf, ReflexivityOf, FunctionOnShape, introduction}
-use Rattle.rz_reduction.specs.Piece.{Question, question, Piece, Cubes, Topes, Points, Compared, family, extension, asks, entail_each_other, points_equal}
+use Rattle.rz_reduction.specs.Piece.{Question, question, Piece, Cubes, Topes, Points, Compared, family, extension, asks, entail_each_other, points_equal, left_side, right_side}
 
 -- what a term has as its next step, whatever is answered of its pieces
 pub data Redex : Type 0 where
@@ -36,7 +36,7 @@ abbrev pub inside : List Eliminator → Redex → Redex
 inside es Normal = Normal
 inside es (Contracts pieces tree) = Contracts pieces (whole tree es)
 inside es (Splits first second) = Splits first second
-inside es (Over count) = Over count
+inside es (Redex.Over count) = Redex.Over count
 
 -- where an eliminator meets its part, that step; else the part's own
 abbrev pub or_inside : Option Redex → Eliminator → Redex → Redex
@@ -47,7 +47,7 @@ or_inside None e within = inside (e ∷ []) within
 abbrev pub where_valid : Entailment → Tree → Redex → Redex
 where_valid Valid term otherwise = Contracts [] term
 where_valid Invalid term otherwise = otherwise
-where_valid (TooMany count) term otherwise = Over count
+where_valid (Entailment.Over count) term otherwise = Redex.Over count
 
 -- A constant is unfolded. An eliminator meets its part, or the part steps; a function on a shape is first asked for its
 -- face at the point. A term by cases of two topes is the one where that tope holds.
@@ -72,26 +72,26 @@ redex C other = Normal
 pub data Next : Type 0 where
   AllAgree : Next
   Compare : (question : Question) → Next
-  -- two cubes, or two topes
-  Disagree : (left right : Tree) → Next
-  PointsDisagree : (left right : Tree) → Next
-  TooWide : (coordinates : ℕ) → Next
+  -- a piece of two cubes, or of two topes, and one of two points
+  Disagree : (piece : Piece) → Next
+  PointsDisagree : (piece : Piece) → Next
+  Over : (coordinates : ℕ) → Next
 
 abbrev pub next_piece : ℕ → List Piece → Next
 next_piece answered [] = AllAgree
 next_piece answered (Cubes left right ∷ pieces) =
-    elim (same_tree left right) [ true ↦ next_piece answered pieces | false ↦ Disagree left right ]
+    elim (same_tree left right) [ true ↦ next_piece answered pieces | false ↦ Disagree (Cubes left right) ]
 next_piece answered (Topes C phi phi' ∷ pieces) =
     elim (entail_each_other C phi phi') [
       | Valid ↦ next_piece answered pieces
-      | Invalid ↦ Disagree phi phi'
-      | TooMany count ↦ TooWide count
+      | Invalid ↦ Disagree (Topes C phi phi')
+      | Entailment.Over count ↦ Next.Over count
     ]
 next_piece answered (Points C I s s' ∷ pieces) =
     elim (points_equal C I s s') [
       | Valid ↦ next_piece answered pieces
-      | Invalid ↦ PointsDisagree s s'
-      | TooMany count ↦ TooWide count
+      | Invalid ↦ PointsDisagree (Points C I s s')
+      | Entailment.Over count ↦ Next.Over count
     ]
 next_piece answered (Compared q ∷ pieces) = elim answered [ zero ↦ Compare q | suc less ↦ next_piece less pieces ]
 
@@ -102,21 +102,21 @@ pub data Step : Type 0 where
   Split : (first second : Tree) → Step
   -- the two sides of the piece that doesn't agree
   Clash : (left right : Tree) → Step
-  Wide : (coordinates : ℕ) → Step
+  Over : (coordinates : ℕ) → Step
   NoStep : Step
 
 abbrev pub step_by_next : Next → Tree → Step
 step_by_next AllAgree tree = New tree
 step_by_next (Compare q) tree = Ask q
-step_by_next (Disagree left right) tree = Clash left right
-step_by_next (PointsDisagree left right) tree = Clash left right
-step_by_next (TooWide count) tree = Wide count
+step_by_next (Disagree piece) tree = Clash (left_side piece) (right_side piece)
+step_by_next (PointsDisagree piece) tree = Clash (left_side piece) (right_side piece)
+step_by_next (Next.Over count) tree = Step.Over count
 
 abbrev pub step_by_redex : Redex → ℕ → Step
 step_by_redex Normal answered = NoStep
 step_by_redex (Contracts pieces tree) answered = step_by_next (next_piece answered pieces) tree
 step_by_redex (Splits first second) answered = Split first second
-step_by_redex (Over count) answered = Wide count
+step_by_redex (Redex.Over count) answered = Step.Over count
 
 abbrev pub step : Tree → Tree → ℕ → Step
 step C t answered = step_by_redex (redex C t) answered

@@ -1,19 +1,28 @@
 -- Terms and contexts as the definitions of steps and comparison write them.
 use Rattle.std.specs.Prelude.{[]}
 use Rattle.rz_rules.specs.declared.kinds.Space.TheVariants.{Points, Terms}
-use Rattle.rz_rules.specs.declared.kinds.Kind.TheVariants.{Pi, Application, First, Second, Identity, Reflexivity, IdentityInduction, ExtensionApplication, CubeEntry, TopeEntry, TermEntry}
+use Rattle.rz_rules.specs.declared.kinds.Kind.TheVariants.{Pi, Lambda, Application, Sigma, Pair, First, Second, Identity, Reflexivity, IdentityInduction, UnitType, Extension, ExtensionLambda, ExtensionApplication, CubeEntry, TopeEntry, TermEntry}
 use Rattle.rz_rules.specs.Tree.{Tree, At, Nil, And}
 use Rattle.rz_rules.specs.Substitution.{none, shift, put}
 use Rattle.rz_rules.specs.Structural.{universe, term_variable}
 
--- functions from A into the family B, and a function f at a
+-- functions from A into the family B, one of them with a body, and a function f at a
 abbrev pub pi : Tree → Tree → Tree
 pi A B = At Pi 0 [] (And A (And B Nil))
+
+abbrev pub lambda : Tree → Tree → Tree → Tree
+lambda A B body = At Lambda 0 [] (And A (And B (And body Nil)))
 
 abbrev pub application : Tree → Tree → Tree → Tree → Tree
 application A B f a = At Application 0 [] (And A (And B (And f (And a Nil))))
 
--- the two parts of a pair p of an A and a term of the family B
+-- pairs of an A and a term of the family B, one of x and y, and the two parts of a pair p
+abbrev pub sigma : Tree → Tree → Tree
+sigma A B = At Sigma 0 [] (And A (And B Nil))
+
+abbrev pub pair : Tree → Tree → Tree → Tree → Tree
+pair A B x y = At Pair 0 [] (And A (And B (And x (And y Nil))))
+
 abbrev pub first : Tree → Tree → Tree → Tree
 first A B p = At First 0 [] (And A (And B (And p Nil)))
 
@@ -30,7 +39,18 @@ reflexivity A a = At Reflexivity 0 [] (And A (And a Nil))
 abbrev pub induction : Tree → Tree → Tree → Tree → Tree → Tree → Tree
 induction A a M d b p = At IdentityInduction 0 [] (And A (And a (And M (And d (And b (And p Nil))))))
 
--- a function f on the shape of I with the tope psi, into the family A, which is a on the face phi, at the point s
+-- the type with one term
+abbrev pub unit : Tree
+unit = At UnitType 0 [] Nil
+
+-- functions on the shape of I with the tope psi, into the family A, that are a on the face phi; one of them with a body, and
+-- one, f, at the point s
+abbrev pub extension_type : Tree → Tree → Tree → Tree → Tree → Tree
+extension_type I psi A phi a = At Extension 0 [] (And I (And psi (And A (And phi (And a Nil)))))
+
+abbrev pub shape_lambda : Tree → Tree → Tree → Tree → Tree → Tree → Tree
+shape_lambda I psi A phi a body = At ExtensionLambda 0 [] (And I (And psi (And A (And phi (And a (And body Nil))))))
+
 abbrev pub extension_application : Tree → Tree → Tree → Tree → Tree → Tree → Tree → Tree
 extension_application I psi A phi a f s =
     At ExtensionApplication 0 [] (And I (And psi (And A (And phi (And a (And f (And s Nil)))))))

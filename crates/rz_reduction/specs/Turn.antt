@@ -3,7 +3,7 @@ use Rattle.std.specs.Prelude.{◌≡◌, ℕ, zero, suc, List, [], ◌∷◌}
 use Rattle.rz_rules.specs.declared.verdicts.Limit.TheVariants.{Coordinates}
 use Rattle.rz_rules.specs.Tree.{Tree}
 use Rattle.rz_reduction.specs.Piece.{Question, Piece, Cubes, Topes, Points, Compared}
-use Rattle.rz_reduction.specs.Step.{Next, AllAgree, Compare, Disagree, PointsDisagree, TooWide, Redex, Normal, Contracts, Splits, Over, redex, Step, New, Ask, Split, Clash, Wide, NoStep, step}
+use Rattle.rz_reduction.specs.Step.{Next, AllAgree, Compare, Disagree, PointsDisagree, Redex, Normal, Contracts, Splits, redex, Step, New, Ask, Split, Clash, NoStep, step}
 use Rattle.rz_reduction.specs.Outcome.{Comparison, Equal, Differ, Clashes, Limited, Outcome, Agreed, Fails, PointsFail, Clashing, Stops}
 use Rattle.rz_reduction.specs.Run.{End, Reached, Divided, Clashed, Stopped, at_limit, after_redex, run_for}
 
@@ -19,7 +19,7 @@ remainder (suc less) (Compared q ∷ pieces) = remainder less pieces
 -- what the answer to one comparison leads to: after Equal to what comes then
 abbrev pub after_comparison : Question → Comparison → Outcome → Outcome
 after_comparison q Equal on = on
-after_comparison q Differ on = Fails q.left q.right
+after_comparison q Differ on = Fails (Compared q)
 after_comparison q (Clashes left right) on = Clashing left right
 after_comparison q (Limited limit) on = Stops limit
 
@@ -27,15 +27,15 @@ after_comparison q (Limited limit) on = Stops limit
 abbrev pub after_next : (Question → Comparison) → Next → Outcome → Outcome
 after_next below AllAgree on = Agreed
 after_next below (Compare q) on = after_comparison q (below q) on
-after_next below (Disagree left right) on = Fails left right
-after_next below (PointsDisagree left right) on = PointsFail left right
-after_next below (TooWide count) on = Stops Coordinates
+after_next below (Disagree piece) on = Fails piece
+after_next below (PointsDisagree piece) on = PointsFail piece
+after_next below (Next.Over count) on = Stops Coordinates
 
 -- where pieces agree, what those behind them come to
 abbrev pub after_outcome : Outcome → Outcome → Outcome
 after_outcome Agreed on = on
-after_outcome (Fails left right) on = Fails left right
-after_outcome (PointsFail left right) on = PointsFail left right
+after_outcome (Fails piece) on = Fails piece
+after_outcome (PointsFail piece) on = PointsFail piece
 after_outcome (Clashing left right) on = Clashing left right
 after_outcome (Stops limit) on = Stops limit
 
@@ -44,7 +44,7 @@ abbrev pub redex_left : ℕ → Redex → Redex
 redex_left answered Normal = Normal
 redex_left answered (Contracts pieces tree) = Contracts (remainder answered pieces) tree
 redex_left answered (Splits first second) = Splits first second
-redex_left answered (Over count) = Over count
+redex_left answered (Redex.Over count) = Redex.Over count
 
 -- a run that may make so many new trees, from a term of which so many asks are answered Equal
 abbrev pub run_from : (Question → Comparison) → ℕ → ℕ → Tree → Tree → End
@@ -64,7 +64,7 @@ after_step below t (New tree) on again = on tree
 after_step below t (Ask q) on again = after_ask q (below q) again
 after_step below t (Split first second) on again = Divided first second
 after_step below t (Clash left right) on again = Clashed left right
-after_step below t (Wide count) on again = Stopped Coordinates
+after_step below t (Step.Over count) on again = Stopped Coordinates
 after_step below t NoStep on again = Reached t
 
 -- a step after which the run is at its end, whether it may make new trees or not

@@ -2,7 +2,7 @@
 use Rattle.std.specs.Prelude.{List, [], ◌∷◌}
 use Rattle.rz_rules.specs.declared.kinds.Kind.TheVariants.{Pi, Lambda, Application, Sigma, Pair, First, Second, Identity, Reflexivity, IdentityInduction, UnitType, Extension, ExtensionLambda, ExtensionApplication}
 use Rattle.rz_rules.specs.Tree.{Tree, At, Nil, And}
-use Rattle.rz_reduction.specs.Terms.{application, first, second, induction, extension_application}
+use Rattle.rz_reduction.specs.Terms.{pi, lambda, application, sigma, pair, first, second, identity, reflexivity, induction, unit, extension_type, shape_lambda, extension_application}
 
 -- an eliminator: what it holds beside the part that it waits for
 pub data Eliminator : Type 0 where
@@ -41,6 +41,14 @@ introduction (At ExtensionLambda number name (And I (And psi (And A (And phi (An
     FunctionOnShape I psi A phi a body
 introduction other = NoIntroduction
 
+-- the term that is read as an introduction; where there is none, a given one
+abbrev pub introduced : Tree → Introduction → Tree
+introduced other (Function A B body) = lambda A B body
+introduced other (PairOf A B x y) = pair A B x y
+introduced other (ReflexivityOf A x) = reflexivity A x
+introduced other (FunctionOnShape I psi A phi a body) = shape_lambda I psi A phi a body
+introduced other NoIntroduction = other
+
 -- the formers of normal terms of which comparison speaks
 pub data Former : Type 0 where
   FunctionType : (A B : Tree) → Former
@@ -59,6 +67,16 @@ former (At Reflexivity number name (And A (And a Nil))) = ReflexivityTerm A a
 former (At Extension number name (And I (And psi (And A (And phi (And a Nil)))))) = ExtensionType I psi A phi a
 former (At UnitType number name Nil) = OnePointType
 former other = OtherTerm
+
+-- the term that is read as one of a former; where there is none, a given one
+abbrev pub formed_by : Tree → Former → Tree
+formed_by other (FunctionType A B) = pi A B
+formed_by other (PairType A B) = sigma A B
+formed_by other (IdentityType A a b) = identity A a b
+formed_by other (ReflexivityTerm A a) = reflexivity A a
+formed_by other (ExtensionType I psi A phi a) = extension_type I psi A phi a
+formed_by other OnePointType = unit
+formed_by other OtherTerm = other
 
 -- a term as a head and its eliminators, from the head outwards
 pub record Spine : Type 0 where

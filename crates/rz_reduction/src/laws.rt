@@ -1,27 +1,47 @@
 //! What holds of every step, run and comparison.
 
 ghost use Rattle.std.specs.Prelude.{◌≡◌, ◌≢◌, ◌↔◌, ◌<◌, ◌≤◌, ◌+◌, ℕ, zero, suc};
-ghost use Rattle.std.specs.Prelude.{List, [], ◌∷◌, ◌++◌, Some, length};
+ghost use Rattle.std.specs.Prelude.{All, List, [], ◌∷◌, ◌++◌, Some, length};
 ghost use Rattle.std.specs.Bool.{Decides};
 ghost use Rattle.rz_rules.specs.declared.verdicts.Limit.TheVariants.{Depth};
-ghost use Rattle.rz_rules.specs.Tree.{Tree};
-ghost use Rattle.rz_rules.specs.Validity.{IsValid, occurring};
+ghost use Rattle.rz_rules.specs.declared.kinds.Sort.TheVariants.{Context, Term};
+ghost use Rattle.rz_rules.specs.Cube.{binders_of, cube_two};
+ghost use Rattle.rz_rules.specs.Tope.{IsPointOf};
+ghost use Rattle.rz_rules.specs.Tree.{Tree, IsTree};
+ghost use Rattle.rz_rules.specs.Validity.{IsValid, occurring, Entailment, Valid, Invalid, coordinates_limit, entailment};
 ghost use Rattle.rz_rules.specs.Same.{same_tree};
-ghost use Rattle.rz_reduction.specs.Entailment.{Valid, Invalid, TooMany, coordinates_limit};
-ghost use Rattle.rz_reduction.specs.Entailment.{entailment};
-ghost use Rattle.rz_reduction.specs.Views.{Eliminator, elimination, whole, introduction};
+ghost use Rattle.rz_rules.specs.Coordinate.{point_of};
+ghost use Rattle.rz_reduction.specs.Views.{Eliminator, elimination, whole, spine};
+ghost use Rattle.rz_reduction.specs.Views.{introduction, introduced, former, formed_by};
 ghost use Rattle.rz_reduction.specs.Piece.{Question, Piece};
-ghost use Rattle.rz_reduction.specs.Step.{Redex, redex, meeting, inside, step, Ask, next_piece};
+ghost use Rattle.rz_reduction.specs.Step.{Redex, redex, meeting, inside, next_piece};
+ghost use Rattle.rz_reduction.specs.Step.{step, Ask, NoStep};
 ghost use Rattle.rz_reduction.specs.Place.{IsOffFace, AreOffFaces, DoesNotMeet, step_inside};
-ghost use Rattle.rz_reduction.specs.Outcome.{Comparison, Limited, outcome_of};
-ghost use Rattle.rz_reduction.specs.Run.{Stopped, at_limit, run_for, run};
-ghost use Rattle.rz_reduction.specs.Comparison.{conversion};
-ghost use Rattle.rz_reduction.specs.Turn.{EndsRun, Reaches, StepsTo, after_next, after_outcome, after_step};
-ghost use Rattle.rz_reduction.specs.Turn.{remainder, run_from};
+ghost use Rattle.rz_reduction.specs.Outcome.{Comparison, Limited, Stops, outcome_of};
+ghost use Rattle.rz_reduction.specs.Run.{Reached, Stopped, at_limit, run_for, run};
+ghost use Rattle.rz_reduction.specs.Comparison.{Answered, conversion, reach};
+ghost use Rattle.rz_reduction.specs.Comparison.{depth_of_asks, depth_of_comparison};
+ghost use Rattle.rz_reduction.specs.Turn.{EndsRun, Reaches, StepsTo, after_next, after_outcome};
+ghost use Rattle.rz_reduction.specs.Turn.{after_step, remainder, run_from};
 
 /// The test of two trees tells whether they are one.
 pub fn one_tree()
     ensures { (s t : Tree) → Decides (same_tree s t) (s ≡ t) }
+{}
+
+/// What is read off a term is the term: its head within its eliminators, the introduction that it
+/// is, and the term of a former.
+pub fn views()
+    ensures spine { (t : Tree) → IsTree Term t → whole (spine t).head (spine t).eliminators ≡ t }
+    ensures introduction { (t : Tree) → IsTree Term t → introduced t (introduction t) ≡ t }
+    ensures former { (t : Tree) → IsTree Term t → formed_by t (former t) ≡ t }
+{}
+
+/// Each coordinate that occurs in the topes of a context or in another tope is a point of the
+/// directed interval over the context.
+pub fn coordinates()
+    ensures { (context tope : Tree) → IsTree Context context
+        → All (λ c. IsPointOf (binders_of context) cube_two (point_of c)) (occurring context tope) }
 {}
 
 /// What is answered of a tope: valid and invalid are what every rank list says, where at most eight
@@ -31,7 +51,7 @@ pub fn questions()
         ↔ (length (occurring C phi) ≤ coordinates_limit) × IsValid C phi) }
     ensures invalid { (C phi : Tree) → (entailment C phi ≡ Invalid
         ↔ (length (occurring C phi) ≤ coordinates_limit) × (IsValid C phi → ⊥)) }
-    ensures wide { (C phi : Tree) (count : ℕ) → (entailment C phi ≡ TooMany count
+    ensures wide { (C phi : Tree) (count : ℕ) → (entailment C phi ≡ Entailment.Over count
         ↔ (coordinates_limit < count) × (count ≡ length (occurring C phi))) }
 {}
 
@@ -91,7 +111,7 @@ pub fn pieces()
 /// answered; an ask is compared, and where that is Equal, the run goes on from the same term with
 /// one more ask answered; each other step ends it. Where no new tree may be made, a new tree and an
 /// ask are the limit of steps. So where steps make new trees, without an ask between, the run is
-/// the one from the last of them.
+/// the one from the last of them. A term that a run reaches has no step.
 pub fn runs()
     ensures begins { (below : Question → Comparison) (left : ℕ) (C t : Tree)
         → run_for below left C t ≡ run_from below left 0 C t }
@@ -107,14 +127,29 @@ pub fn runs()
         → run_from below left answered C t ≡ at_limit t (step C t answered) }
     ensures limit { (below : Question → Comparison) (answered : ℕ) (C t : Tree)
         → run_from below zero answered C t ≡ at_limit t (step C t answered) }
+    ensures normal { (below : Question → Comparison) (answered : ℕ) (C t u : Tree)
+        → run below C t ≡ Reached u → step C u answered ≡ NoStep }
 {}
 
 /// A greater depth changes no answer but the limit of depth, the two trees of a clash included. So
-/// the bound on depth only withholds answers. The same holds of runs.
+/// the bound on depth only withholds answers, and a limit of depth is one at each lesser depth. The
+/// same holds of runs, and of what sets two terms apart: the two terms after their runs, and the
+/// piece that fails. The asks of a reading's run are one less deep than its comparison.
 pub fn depth()
     ensures comparisons { (low high : ℕ) (q : Question) → low ≤ high
         → conversion low q ≢ Limited Depth → conversion high q ≡ conversion low q }
     ensures runs { (low high : ℕ) (C t : Tree) → low ≤ high
         → run (conversion low) C t ≢ Stopped Depth
         → run (conversion high) C t ≡ run (conversion low) C t }
+    ensures reaches { (low high : ℕ) (q : Question) → low ≤ high
+        → reach (conversion low) q ≢ Answered (Limited Depth)
+        → reach (conversion high) q ≡ reach (conversion low) q }
+    ensures outcomes { (low high : ℕ) (pieces : List Piece) → low ≤ high
+        → outcome_of (conversion low) pieces ≢ Stops Depth
+        → outcome_of (conversion high) pieces ≡ outcome_of (conversion low) pieces }
+    ensures limits { (low high : ℕ) (q : Question) → low ≤ high
+        → conversion high q ≡ Limited Depth → conversion low q ≡ Limited Depth }
+    ensures run_limits { (low high : ℕ) (C t : Tree) → low ≤ high
+        → run (conversion high) C t ≡ Stopped Depth → run (conversion low) C t ≡ Stopped Depth }
+    ensures reading { depth_of_comparison ≡ suc depth_of_asks }
 {}

@@ -23,7 +23,7 @@ use Rattle.rz_solver.specs.Writing.{Setting, IsJob, IsPlace, IsProved, IsSaid, I
 use Rattle.rz_solver.proofs.Following.{cases_spelled, infers_applies, premises_under}
 use Rattle.rz_solver.proofs.Jobs.{job_grown, line_follows, place_grown, place_is, statement_here, tree_here}
 use Rattle.rz_solver.proofs.Proved.{AreCases, Because, because, proved, said_so, tope_is}
-use Rattle.rz_solver.proofs.Saying.{said_is}
+use Rattle.rz_log.proofs.Saying.{said_is}
 
 -- why a job is proved, where the reason of its inference is known
 pub reason_of : (here : Setting) (w : World) (place : Place) (i : ℕ) (all : List Inference) (why : Reason)

@@ -23,7 +23,7 @@ use Rattle.rz_solver.specs.Writing.{Setting, IsJob, IsPlace, IsSide, context_und
 use Rattle.rz_solver.proofs.Following.{holds_follows}
 use Rattle.rz_solver.proofs.Forming.{claim_tope}
 use Rattle.rz_solver.proofs.Proved.{claim_is, inference_is, tope_grown}
-use Rattle.rz_solver.proofs.Saying.{said_is}
+use Rattle.rz_log.proofs.Saying.{said_is}
 
 -- assumptions bind nothing
 pub binders_under : (here : Setting) (assumed : List ℕ) → binders_of (context_under here assumed) ≡ binders_of here.context

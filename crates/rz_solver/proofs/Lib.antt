@@ -1,6 +1,5 @@
 pub mod Forming
 pub mod Following
-pub mod Saying
 pub mod Proved
 pub mod Jobs
 pub mod Cases

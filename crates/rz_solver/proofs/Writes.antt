@@ -11,7 +11,7 @@ use Rattle.rz_solver.specs.declared.writing.Place.{Place}
 use Rattle.rz_solver.specs.declared.writing.Task.{Task}
 use Rattle.rz_solver.specs.Writing.{Setting, IsJob, IsPlace, IsProved, IsTask, IsWriting, context_under}
 use Rattle.rz_solver.proofs.Jobs.{place_grown}
-use Rattle.rz_solver.proofs.Saying.{item_all}
+use Rattle.rz_log.proofs.Saying.{item_all}
 
 -- items of a longer list
 item_before : {A : Type 0} (list more : List A) (k : ℕ) (x : A) → slice_get list k ≡ Some x → slice_get (list ++ more) k ≡ Some x

@@ -3,7 +3,7 @@ use Rattle.std.specs.Prelude.{List, []}
 use Rattle.rz_rules.specs.declared.nodes.Node.{Node}
 use Rattle.rz_rules.specs.Tree.{Tree}
 use Rattle.rz_tope_proof.specs.Proving.{Proves}
-use Rattle.rz_log.specs.Entail.{Refutes}
+use Rattle.rz_rules.specs.Validity.{Refutes}
 use Rattle.rz_solver.specs.declared.solver.Answer.{Answer}
 use Rattle.rz_solver.specs.declared.solver.Answer.TheVariants.{Proved, Refuted}
 

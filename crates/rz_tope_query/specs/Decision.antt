@@ -5,10 +5,10 @@ use Rattle.rz_rules.specs.File.{Claim, IsFile}
 use Rattle.rz_rules.specs.Structural.{formed, holds}
 use Rattle.rz_rules.specs.Tope.{IsTopeOver}
 use Rattle.rz_rules.specs.Tree.{tree_of}
-use Rattle.rz_rules.specs.Validity.{IsValid, occurring}
+use Rattle.rz_rules.specs.Validity.{IsValid, occurring, Refutes, coordinates_limit}
 use Rattle.rz_log.specs.declared.world.World.{World}
-use Rattle.rz_log.specs.Entail.{Refutes, coordinates_limit}
 use Rattle.rz_log.specs.World.{Says}
+use Rattle.rz_export.specs.Needs.{HasNothingInVain}
 use Rattle.rz_tope_query.specs.declared.sequent.Question.{Question}
 use Rattle.rz_tope_query.specs.declared.decision.Decision.{Decision}
 use Rattle.rz_tope_query.specs.declared.decision.Decision.TheVariants.{Yes, No, Silent}
@@ -43,6 +43,11 @@ IsDecisionOf sequent (Yes bytes) =
 IsDecisionOf sequent (No names ranks) =
     (count_of sequent ≤ coordinates_limit) × (names ≡ sequent.names) × Refutes sequent.context sequent.goal ranks
 IsDecisionOf sequent (Silent count) = (coordinates_limit < count) × (count ≡ count_of sequent)
+
+-- each line and each node of the file of a yes is there for its claim
+abbrev pub IsLean : Decision → Type 0
+IsLean (Yes bytes) = HasNothingInVain bytes
+IsLean other = Unit {0}
 
 -- the text says a sequent, and this is the right decision of it
 abbrev pub IsDecided : List ℕ → Decision → Type 0

@@ -3,8 +3,10 @@
 ghost use Rattle.std.specs.Prelude.{◌≡◌, ℕ, ◌<◌, ◌∷◌, [], List, length, codes, IfOk, IfSome, IfNone};
 ghost use Rattle.rz_rules.specs.File.{IsFile, statement_at};
 ghost use Rattle.rz_log.specs.World.{IsSound, statements_in};
+ghost use Rattle.rz_export.specs.Needs.{HasNothingInVain};
 ghost use Rattle.rz_tope_query.specs.Sequent.{IsNoSequent};
-ghost use Rattle.rz_tope_query.specs.Decision.{IsAsked, IsDecided, IsDecisionOf, sequent_at};
+ghost use Rattle.rz_tope_query.specs.Decision.{IsAsked, IsDecided, IsDecisionOf, IsLean};
+ghost use Rattle.rz_tope_query.specs.Decision.{sequent_at};
 
 use crate::reading::question;
 use crate::sequent::Question;
@@ -33,10 +35,11 @@ pub enum Decision {
 fn file_of_step(alloc: Global, w: &World, step: u64) -> Result<Bytes, OutOfMemory>
     requires sound { IsSound w.now }
     requires there { step < length w.now.log }
-    ensures { IfOk result (λ bytes. IsFile bytes (record {
+    ensures file { IfOk result (λ bytes. IsFile bytes (record {
       name = codes "tope";
       says = statement_at (statements_in w.now) step;
     } ∷ [])) }
+    ensures lean { IfOk result HasNothingInVain }
 {
     let name = Name::from_text(alloc, "tope")?;
     let part = export(alloc, w, &[Claimed { name, step }])?;
@@ -47,7 +50,8 @@ fn file_of_step(alloc: Global, w: &World, step: u64) -> Result<Bytes, OutOfMemor
 fn decision_of(alloc: Global, mut w: World, question: Question) -> Result<Decision, OutOfMemory>
     requires sound { IsSound w }
     requires asked { (text : List ℕ) × IsAsked text w question }
-    ensures { IfOk result (IsDecisionOf (sequent_at w question)) }
+    ensures decided { IfOk result (IsDecisionOf (sequent_at w question)) }
+    ensures lean { IfOk result IsLean }
 {
     let mut solver = Solver::new(alloc);
     let entailed = solver.entail(&mut w, question.at, question.goal)?;
@@ -64,9 +68,11 @@ fn decision_of(alloc: Global, mut w: World, question: Question) -> Result<Decisi
     }
 }
 
-/// The decision of the sequent that a text says; `None` where it says none.
+/// The decision of the sequent that a text says; `None` where it says none. Nothing stands in the
+/// file of a yes in vain.
 pub fn decide(alloc: Global, text: &str) -> Result<Option<Decision>, OutOfMemory>
     ensures decided { IfOk result (λ found. IfSome found (IsDecided text.now)) }
+    ensures lean { IfOk result (λ found. IfSome found IsLean) }
     ensures none { IfOk result (λ found. IfNone found (IsNoSequent text.now)) }
 {
     let mut w = World::new(alloc);

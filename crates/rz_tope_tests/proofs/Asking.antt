@@ -71,7 +71,7 @@ answered old new asked entailed sound grows is answer =
 -- the step of a yes is there, since it says something
 pub step_there : (w : World) (context tope : Tree) (entailed : Entailed) → IsEntailed w context tope entailed → IsStepOf w entailed
 step_there w context tope (Yes step) is =
-    let within = slice_get_within (statements_in w) step (holds context tope) is.2 in
+    let within = slice_get_within (statements_in w) step (holds context tope) is.1 in
     let long = length-map (map (λ (line : Line). line.says) w.log) (statement (trees_in w.pool.nodes)) in
     let lines = length-map w.log (λ (line : Line). line.says) in
     omega (within, long, lines, arith)

@@ -1,6 +1,7 @@
 use rz_drv::encode;
 use rz_export::export;
-use rz_log::laws::{derivation, growth, scoping};
+use rz_export::laws::one_part;
+use rz_log::laws::{derivation, growth, scoping, statements};
 use rz_log::{Log, World};
 use rz_rules::{Judgment, Numbers};
 use std::test::Fail;
@@ -27,6 +28,7 @@ fn world_without_lines(rt: HostRuntime) -> Result<(), Fail> {
     let steps = log.reachable(alloc, &roots)?;
     assert_eq!(rt; steps.len(), 0);
     derivation();
+    statements();
     scoping();
     growth();
     Ok(())

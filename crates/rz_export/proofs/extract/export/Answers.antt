@@ -66,6 +66,21 @@ returns-clause-file c =
     file_of c.args.w.now ids steps c.args.claims.now (record { nodes = c.in_ok-nodes.nodes; lines = c.in_ok-lines.lines; claims = c.in_ok-claims.claims })
     c.requires.sound rising_ids rising_steps c.in_ok-nodes.ensures c.in_ok-lines.ensures c.in_ok-claims.ensures c.requires.names
 
+pub returns-clause-part : goal.returns-clause-part
+returns-clause-part c =
+    let steps = c.as_slice-steps.result.now in
+    let ids = c.as_slice-ids.result.now in record {
+      steps = steps;
+      ids = ids;
+      steps_are = same_contents c.in_ok-support.support steps (IsReachable c.args.w.now.log (steps_claimed c.args.claims.now)) c.as_slice-steps.ensures c.in_ok-support.ensures.exact;
+      steps_rise = subst IsRising (sym c.as_slice-steps.ensures) c.in_ok-support.ensures.rising;
+      ids_are = same_contents c.in_ok-needed.needed ids (IsNeeded c.args.w.now.pool.nodes (names_at c.args.w.now.log steps)) c.as_slice-ids.ensures c.in_ok-needed.ensures.exact;
+      ids_rise = subst IsRising (sym c.as_slice-ids.ensures) c.in_ok-needed.ensures.rising;
+      nodes = c.in_ok-nodes.ensures;
+      lines = c.in_ok-lines.ensures;
+      claims_are = c.in_ok-claims.ensures;
+    }
+
 pub returns-clause-lines : goal.returns-clause-lines
 returns-clause-lines c =
     let steps = c.as_slice-steps.result.now in

@@ -1,4 +1,4 @@
-use Rattle.rz_reduction.proofs.Entailment.{entailment_valid, entailment_invalid, entailment_wide}
+use Rattle.rz_rules.proofs.Entailment.{entailment_valid, entailment_invalid, entailment_over}
 use Rattle.rz_reduction.proofs.laws.questions.Goals as goal
 
 pub returns-clause-valid : goal.returns-clause-valid
@@ -8,4 +8,4 @@ pub returns-clause-invalid : goal.returns-clause-invalid
 returns-clause-invalid c = entailment_invalid
 
 pub returns-clause-wide : goal.returns-clause-wide
-returns-clause-wide c = entailment_wide
+returns-clause-wide c = entailment_over

@@ -13,7 +13,7 @@ use Rattle.rz_log.specs.World.{statements_in}
 use Rattle.rz_log.proofs.Worlds.{grows_pool, says_grown, sound_pool}
 use Rattle.rz_solver.proofs.Forming.{has_sort, over_sort, two_formed, two_sorts}
 use Rattle.rz_solver.proofs.Following.{opened_follows}
-use Rattle.rz_solver.proofs.Saying.{said_is, tree_is}
+use Rattle.rz_log.proofs.Saying.{said_is, tree_is}
 use Rattle.rz_solver.proofs.contexts.with_tope.Goals as goal
 
 pub make-requires : goal.make-requires

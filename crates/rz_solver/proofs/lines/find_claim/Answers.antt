@@ -8,7 +8,7 @@ use Rattle.rz_log.specs.declared.world.World.{World}
 use Rattle.rz_log.specs.World.{Says}
 use Rattle.rz_log.proofs.Worlds.{grows_pool}
 use Rattle.rz_tope_proof.specs.Claim.{tope_of}
-use Rattle.rz_solver.proofs.Saying.{found_says}
+use Rattle.rz_log.proofs.Saying.{found_says}
 use Rattle.rz_solver.proofs.lines.find_claim.Goals as goal
 
 pub returns-in_err-phi-clause-grows : goal.returns-in_err-phi-clause-grows

@@ -2,8 +2,7 @@ use Rattle.std.proofs.Common.{◌≡◌, ◌+◌, List, [], length, sym, ap, ◌
 use Rattle.std.specs.Prelude.{All}
 use Rattle.rz_rules.specs.declared.coordinates.Coord.{Coord}
 use Rattle.rz_rules.specs.Tree.{tree_of}
-use Rattle.rz_rules.specs.Validity.{IsRankList}
-use Rattle.rz_log.specs.Entail.{Refutes}
+use Rattle.rz_rules.specs.Validity.{IsRankList, Refutes}
 use Rattle.rz_tope_proof.specs.declared.parts.Part.{Part}
 use Rattle.rz_tope_proof.specs.Order.{by_rank, rank}
 use Rattle.rz_tope_proof.specs.Ranks.{ranks_from}

@@ -3,17 +3,17 @@ use Rattle.rz_rules.specs.declared.coordinates.Coord.{Coord}
 use Rattle.rz_rules.specs.declared.nodes.Node.{Node}
 use Rattle.rz_rules.specs.Structural.{formed, holds}
 use Rattle.rz_rules.specs.Tree.{Tree, tree_of}
-use Rattle.rz_rules.specs.Validity.{occurring}
+use Rattle.rz_rules.specs.Validity.{occurring, Refutes}
 use Rattle.rz_pool.specs.Pool as pool
 use Rattle.rz_metatheory.specs.SmallOrders.{IsSequent}
 use Rattle.rz_metatheory.proofs.Scoping.{scoped_sequent}
 use Rattle.rz_log.specs.declared.world.World.{World}
-use Rattle.rz_log.specs.Entail.{Refutes}
 use Rattle.rz_log.specs.World.{Says, context_at}
+use Rattle.rz_log.proofs.Entailing.{no_is, silent_is, yes_is}
 use Rattle.rz_log.proofs.Worlds.{grows_pool, says_grown, sound_pool}
 use Rattle.rz_tope_proof.specs.Proving.{Proves}
 use Rattle.rz_solver.specs.Answer.{IsAnswer}
-use Rattle.rz_solver.proofs.Saying.{back_again, context_kept, context_of_line}
+use Rattle.rz_log.proofs.Saying.{back_again, context_kept, context_of_line}
 use Rattle.rz_solver.proofs.solver.solve.Goals as goal
 
 pub decide-requires-clause-context : goal.decide-requires-clause-context
@@ -41,11 +41,11 @@ decide-requires-clause-list c =
 pub returns-then-count-clause-entailed : goal.returns-then-count-clause-entailed
 returns-then-count-clause-entailed c =
     let w = c.args.w.now in
-    let line = context_of_line w c.args.at c.line.result.now (context_at w c.args.at) c.context-context.result c.requires.sound c.line.ensures.line c.requires.at c.context-context.ensures in (
-      c.if-count.true,
-      c.len-count.ensures ∙ ap (λ (l : List Coord). length l)
-          (c.in_ok-list.ensures.list ∙ ap (λ (t : Tree). occurring t (tree_of w.pool.nodes c.args.phi)) line.1),
-    )
+    let line = context_of_line w c.args.at c.line.result.now (context_at w c.args.at) c.context-context.result c.requires.sound c.line.ensures.line c.requires.at c.context-context.ensures in
+    let context = context_at w c.args.at in
+    let tope = tree_of w.pool.nodes c.args.phi in
+    silent_is w context tope c.len-count.result c.if-count.true
+    (c.len-count.ensures ∙ ap (λ (l : List Coord). length l) (c.in_ok-list.ensures.list ∙ ap (λ (t : Tree). occurring t tope) line.1))
 
 -- the nodes were the same, and then some were added
 pub returns-in_err-answer-clause-grows : goal.returns-in_err-answer-clause-grows
@@ -101,11 +101,10 @@ returns-in-Proved-clause-entailed c =
     let few = c.if-count.false in
     let count : c.len-count.result ≡ length (occurring context tope) =
     c.len-count.ensures ∙ ap (λ (l : List Coord). length l)
-    (c.in_ok-list.ensures.list ∙ ap (λ (t : Tree). occurring t tope) line.1) in (
-      omega (few, count, arith),
-      c.validity.ensures.valid context tope (c.derivation.ensures c.write.new.w c.in_ok-step-in-Proved.step (holds context tope) c.write.ensures.grows.sound says),
-      says,
-    )
+    (c.in_ok-list.ensures.list ∙ ap (λ (t : Tree). occurring t tope) line.1) in
+    yes_is c.write.new.w context tope c.in_ok-step-in-Proved.step (omega (few, count, arith))
+    (c.validity.ensures.valid context tope (c.derivation.ensures c.write.new.w c.in_ok-step-in-Proved.step (holds context tope) c.write.ensures.grows.sound says))
+    says
 
 pub returns-clause-entailed : goal.returns-clause-entailed
 returns-clause-entailed c =
@@ -119,11 +118,10 @@ returns-clause-entailed c =
     let few = c.if-count.false in
     let count : c.len-count.result ≡ length (occurring context tope) =
     c.len-count.ensures ∙ ap (λ (l : List Coord). length l)
-    (c.in_ok-list.ensures.list ∙ ap (λ (t : Tree). occurring t tope) line.1) in (
-      omega (few, count, arith),
-      subst (λ (t : Tree). Refutes t tope c.in-Refuted.ranks) line.1
-          (subst (λ (ns : List Node). Refutes (tree_of ns c.context-context.result) (tree_of ns c.args.phi) c.in-Refuted.ranks) c.occurring.ensures.nodes answer),
-    )
+    (c.in_ok-list.ensures.list ∙ ap (λ (t : Tree). occurring t tope) line.1) in
+    no_is c.release.new.self context tope c.in-Refuted.ranks (omega (few, count, arith))
+    (subst (λ (t : Tree). Refutes t tope c.in-Refuted.ranks) line.1
+    (subst (λ (ns : List Node). Refutes (tree_of ns c.context-context.result) (tree_of ns c.args.phi) c.in-Refuted.ranks) c.occurring.ensures.nodes answer))
 
 pub returns-clause-grows : goal.returns-clause-grows
 returns-clause-grows c =

@@ -9,7 +9,7 @@ use Rattle.rz_tope_proof.specs.Proving.{Proves}
 use Rattle.rz_solver.specs.declared.writing.Place.{Place}
 use Rattle.rz_solver.specs.Writing.{Setting, IsSaid}
 use Rattle.rz_solver.proofs.Proved.{proved, tope_is}
-use Rattle.rz_solver.proofs.Saying.{context_of_line}
+use Rattle.rz_log.proofs.Saying.{context_of_line}
 use Rattle.rz_solver.proofs.Writes.{start_writing}
 use Rattle.rz_solver.proofs.writing.write.Goals as goal
 

@@ -10,4 +10,4 @@ decision_of-requires-clause-asked c =
 pub returns-clause-decided : goal.returns-clause-decided
 returns-clause-decided c =
     let asked = subst (λ o. IfSome o (IsAsked c.args.text.now c.question.new.w)) c.in-Some.is c.in_ok-question.ensures.asked in
-    (sequent_at c.question.new.w c.in-Some.question, asked.says, c.in_ok-decision.ensures)
+    (sequent_at c.question.new.w c.in-Some.question, asked.says, c.in_ok-decision.ensures.decided)

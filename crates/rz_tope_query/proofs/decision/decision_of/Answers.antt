@@ -8,7 +8,9 @@ use Rattle.rz_rules.specs.Tope.{IsTopeOver}
 use Rattle.rz_rules.specs.Tree.{Tree, tree_of}
 use Rattle.rz_log.specs.Entail.{IsEntailed}
 use Rattle.rz_log.specs.World.{Says}
-use Rattle.rz_tope_query.proofs.Deciding.{context_is, entailed_in, said_within, statement_is}
+use Rattle.rz_log.proofs.Entailing.{of_no, of_silent, of_yes}
+use Rattle.rz_log.proofs.Saying.{context_is, said_within, statement_is}
+use Rattle.rz_tope_query.proofs.Deciding.{entailed_in}
 use Rattle.rz_tope_query.proofs.decision.decision_of.Goals as goal
 
 pub entail-requires-clause-over : goal.entail-requires-clause-over
@@ -27,37 +29,38 @@ file_of_step-requires-clause-there c =
     let new = c.entail.new.w in
     let all = entailed_in w new c.args.question.at context tope c.in_ok-entailed.entailed c.requires.asked.1.formed_is c.in_ok-entailed.ensures.entailed in
     let is = subst (IsEntailed new context tope) c.in-Yes.is all in
-    said_within new c.in-Yes.step (holds context tope) is.2
+    said_within new c.in-Yes.step (holds context tope) is.1
 
-pub returns-in-Yes : goal.returns-in-Yes
-returns-in-Yes c =
+pub returns-in-Yes-clause-decided : goal.returns-in-Yes-clause-decided
+returns-in-Yes-clause-decided c =
     let w = c.args.w in
     let context = tree_of w.pool.nodes c.args.question.context in
     let tope = tree_of w.pool.nodes c.args.question.goal in
     let new = c.entail.new.w in
     let all = entailed_in w new c.args.question.at context tope c.in_ok-entailed.entailed c.requires.asked.1.formed_is c.in_ok-entailed.ensures.entailed in
-    let is = subst (IsEntailed new context tope) c.in-Yes.is all in (
-      is.0,
-      is.1,
+    let is = subst (IsEntailed new context tope) c.in-Yes.is all in
+    let valid = of_yes new context tope c.in-Yes.step is in (
+      valid.0,
+      valid.1,
       subst (λ (s : Statement). IsFile c.in_ok-bytes-in-Yes.bytes (record { name = codes "tope"; says = s } ∷ []))
-          (statement_is new c.in-Yes.step (holds context tope) is.2) c.in_ok-bytes-in-Yes.ensures,
+          (statement_is new c.in-Yes.step (holds context tope) is.1) c.in_ok-bytes-in-Yes.ensures.file,
     )
 
-pub returns-in-No : goal.returns-in-No
-returns-in-No c =
+pub returns-in-No-clause-decided : goal.returns-in-No-clause-decided
+returns-in-No-clause-decided c =
     let w = c.args.w in
     let context = tree_of w.pool.nodes c.args.question.context in
     let tope = tree_of w.pool.nodes c.args.question.goal in
     let new = c.entail.new.w in
     let all = entailed_in w new c.args.question.at context tope c.in_ok-entailed.entailed c.requires.asked.1.formed_is c.in_ok-entailed.ensures.entailed in
     let is = subst (IsEntailed new context tope) c.in-No.is all in
-    (is.0, refl, is.1)
+    (of_no new context tope c.in-No.ranks is, refl, is.1)
 
-pub returns : goal.returns
-returns c =
+pub returns-clause-decided : goal.returns-clause-decided
+returns-clause-decided c =
     let w = c.args.w in
     let context = tree_of w.pool.nodes c.args.question.context in
     let tope = tree_of w.pool.nodes c.args.question.goal in
     let new = c.entail.new.w in
     let all = entailed_in w new c.args.question.at context tope c.in_ok-entailed.entailed c.requires.asked.1.formed_is c.in_ok-entailed.ensures.entailed in
-    subst (IsEntailed new context tope) c.in-Silent.is all
+    of_silent new context tope c.in-Silent.count (subst (IsEntailed new context tope) c.in-Silent.is all)

@@ -1,14 +1,15 @@
 -- What steps of a sound world say.
-use Rattle.std.proofs.Common.{◌≡◌, ℕ, zero, suc, ◌<◌, List, [], ◌∷◌, length, take, Option, Some, None, refl, sym, ap, ◌∙◌, subst}
+use Rattle.std.proofs.Common.{◌≡◌, ℕ, zero, suc, ◌<◌, List, [], ◌∷◌, length, take, Option, Some, None, refl, sym, ap, ◌∙◌, subst, arith}
 use Rattle.std.specs.Prelude.{All, slice_get, IfSome, option_map}
 use Rattle.std.proofs.Math.Seq.{take-append_seam}
 use Rattle.std.proofs.lemmas.List.{append-nil}
 use Rattle.std.proofs.lemmas.List.Elements.{All-head, All-tail}
-use Rattle.std.proofs.lemmas.Option.{slice_get-map}
+use Rattle.std.specs.List.{slice_index_or}
+use Rattle.std.proofs.lemmas.Option.{slice_get-map, slice_get_within}
 use Rattle.rz_rules.specs.declared.judgments.Judgment.{Judgment}
 use Rattle.rz_rules.specs.declared.judgments.Line.{Line}
 use Rattle.rz_rules.specs.declared.nodes.Node.{Node}
-use Rattle.rz_rules.specs.Tree.{Tree, IsTree, sort_of, tree_of, trees_in}
+use Rattle.rz_rules.specs.Tree.{Tree, IsTree, blank, sort_of, tree_of, trees_in}
 use Rattle.rz_rules.specs.Judgment.{IsStatement, Statement, context_of, parts_of, statement}
 use Rattle.rz_rules.specs.Structural.{formed}
 use Rattle.rz_rules.specs.File.{statement_at}
@@ -21,6 +22,7 @@ use Rattle.rz_log.specs.Index.{IsFirst}
 use Rattle.rz_log.specs.Log.{IsLineOver, judgments_of}
 use Rattle.rz_log.specs.World as world
 use Rattle.rz_log.specs.World.{IsSound, Says, context_at, statements_in}
+use Rattle.rz_log.proofs.Logs.{length_statements}
 use Rattle.rz_log.proofs.Worlds.{statements_grown}
 
 -- what holds of all items holds of one that is there
@@ -49,6 +51,26 @@ said_is w step says sound there = at (slice_get w.log step) refl where
       ∙ ap (option_map (statement (trees_in w.pool.nodes))) (slice_get-map (λ (l : Line). l.says) w.log step ∙ ap (option_map (λ (l : Line). l.says)) e) in
       let wrong : None ≡ Some says = sym none ∙ there in
       absurd cc
+
+-- an item that is there
+item_is : {A : Type 0} (list : List A) (k : ℕ) (x d : A) → slice_get list k ≡ Some x → slice_index_or list k d ≡ x
+item_is [] k x d h = let wrong : None ≡ Some x = h in absurd cc
+item_is (y ∷ list) zero x d h = let one : Some y ≡ Some x = h in cc
+item_is (y ∷ list) (suc k) x d h = item_is list k x d h
+
+-- what a step says, as it is looked up
+pub statement_is : (w : World) (step : ℕ) (says : Statement) → Says w step says → statement_at (statements_in w) step ≡ says
+statement_is w step says there = item_is (statements_in w) step says (formed blank) there
+
+-- the context of a step that says it to be formed
+pub context_is : (w : World) (step : ℕ) (context : Tree) → Says w step (formed context) → context_at w step ≡ context
+context_is w step context there = ap (λ (s : Statement). s.context) (statement_is w step (formed context) there)
+
+-- a step that says something is there
+pub said_within : (w : World) (step : ℕ) (says : Statement) → Says w step says → step < length w.log
+said_within w step says there =
+    let within = slice_get_within (statements_in w) step says there in
+    omega (within, length_statements w.pool.nodes w.log, arith)
 
 -- a step that is found says what was looked for
 pub found_says : (w : World) (says : Judgment) (found : Option ℕ) → IsFirst (judgments_of w.log) says found
