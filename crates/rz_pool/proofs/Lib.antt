@@ -9,3 +9,4 @@ pub mod Copying
 pub mod Sorts
 pub mod WellFormed
 pub mod NoEntry
+pub mod Asking

@@ -1,6 +1,8 @@
 -- What a table of nodes and their spans tells about the list of its nodes.
-use Rattle.std.proofs.Common.{◌≡◌, ℕ, suc, ◌+◌, ◌<◌, Bool, true, false, cond, not, ◌||◌, List, [], ◌∷◌, ◌++◌, None, Some, length, get_or, take, Contains, slice_get, refl, sym, ap, subst, ◌∙◌, inl, inr, true≢false, if◌then◌else◌, arith}
-use Rattle.std.specs.List.{list_any, position_or_len}
+use Rattle.std.proofs.Common.{◌≡◌, ℕ, suc, ◌+◌, ◌<◌, Bool, true, false, cond, not, ◌||◌, List, [], ◌∷◌, ◌++◌, Option, None, Some, length, get_or, take, Contains, slice_get, refl, sym, ap, subst, ◌∙◌, inl, inr, true≢false, if◌then◌else◌, nat_lt, arith}
+use Rattle.std.specs.List.{list_any, position_or_len, position}
+use Rattle.std.proofs.lemmas.Bool.Decides.{nat_tests}
+use Rattle.std.proofs.lemmas.Option.{slice_get_within}
 use Rattle.std.specs.Map.{keys_of, values_of, lookup}
 use Rattle.std.specs.Option.{option_map}
 use Rattle.std.proofs.lemmas.List.{map-append, length-map, take-map}
@@ -12,10 +14,13 @@ use Rattle.rz_rules.specs.declared.nodes.Node.{Node}
 use Rattle.rz_rules.specs.contracts.nodes.NodePartialEq.TheImpl.{eq-value}
 use Rattle.rz_rules.proofs.Equal.{nodes_Decides}
 use Rattle.rz_rules.specs.Tree.{trees_in, tree_over, tree_of}
+use Rattle.rz_pool.specs.declared.questions.Question.{Question}
 use Rattle.rz_pool.specs.declared.spans.Spans.{Spans}
 use Rattle.rz_pool.specs.Free.{AreSpansOf, HaveSpans}
 use Rattle.rz_rules.specs.Tree.{HasForm}
 use Rattle.rz_pool.specs.Pool.{IsPool, Grows, Makes}
+use Rattle.rz_pool.specs.Kept.{AreRight}
+use Rattle.rz_pool.proofs.Asking.{AreRight-Grows}
 use Rattle.rz_pool.proofs.Nodes.{tree_of_place, IsPool-take, IsPool-Makes, tree_of-Makes, Grows-Makes}
 use Rattle.rz_pool.proofs.KeptSpans.{same_spans, HaveSpans-push, HaveSpans-take}
 
@@ -82,6 +87,31 @@ module _ (n : Node) where
           let one : 1 + position_or_len is_it xs ≡ suc (position_or_len is_it xs) = omega arith in
           let next : position_or_len is_it (x ∷ xs) ≡ suc (position_or_len is_it xs) = ap (λ b. cond (not b) (1 + position_or_len is_it xs) 0) e ∙ one in
           ap (slice_get (x ∷ xs)) next ∙ later (sym (ap (λ b. b || list_any is_it xs) e) ∙ h)
+
+  -- what a look-up finds
+  pub found_here : (ns : List Node) (id : ℕ) → position is_it ns ≡ Some id → slice_get ns id ≡ Some n
+  found_here ns id e = by (list_any is_it ns) refl
+    where
+      place : ℕ
+      place = position_or_len is_it ns
+
+      is_place : place < length ns → place ≡ id
+      is_place l =
+          let below : nat_lt place (length ns) ≡ true = grind (arith, nat_tests) in
+          let same : Some place ≡ Some id = sym (ap (λ t. cond t (Some place) None) below) ∙ e in
+          cc
+
+      nowhere : place ≡ length ns → slice_get ns id ≡ Some n
+      nowhere last =
+          let above : nat_lt place (length ns) ≡ false = grind (arith, nat_tests) in
+          let same : None ≡ Some id = sym (ap (λ t. cond t (Some place) None) above) ∙ e in
+          absurd cc
+
+      by : (b : Bool) → list_any is_it ns ≡ b → slice_get ns id ≡ Some n
+      by true there =
+          let at = found_at ns there in
+          ap (slice_get ns) (sym (is_place (slice_get_within ns place n at))) ∙ at
+      by false none = nowhere (position_or_len_is is_it ns (length ns) n (omega arith) (other_node ns none) (λ l. absurd (omega arith)))
 
   module _ (b : Spans) where
     -- a new node goes last
@@ -166,6 +196,19 @@ IsMade-insert es old n b new place id same_id before kept =
     subst (λ (ns : List Node). HasForm (trees_in ns) (length ns) n → AreSpansOf (tree_over (trees_in ns) n) b → new ≡ insert_entry eq-value.it es n b
     → place ≡ position_or_len (eq-value.it n) (keys_of es) → IsMade ns n new id) before
     (λ fine here stored index. made_here es n b kept.0 kept.1 fine here new id stored (sym same_id ∙ index))
+
+-- what a pool keeps: its nodes with their spans, and answers
+abbrev pub Holds : Entries → List (Question × Option ℕ) → Type 0
+Holds es pairs = IsPool (keys_of es) × HaveSpans (keys_of es) (values_of es) × AreRight (keys_of es) pairs
+
+-- and likewise with the answers
+pub Holds-made : (es : Entries) (old : List Node) (n : Node) (new : Entries) (id : ℕ) (pairs : List (Question × Option ℕ)) → keys_of es ≡ old
+    → Holds es pairs → IsMade old n new id → Holds new pairs
+Holds-made es old n new id pairs same holds is = (
+  is.kept.0,
+  is.kept.1,
+  AreRight-Grows old (keys_of new) is.grows pairs (subst (λ (ns : List Node). AreRight ns pairs) same holds.2),
+)
 
 -- fewer entries
 pub IsKept-take : (es : Entries) (k : ℕ) → IsPool (keys_of es) × HaveSpans (keys_of es) (values_of es)

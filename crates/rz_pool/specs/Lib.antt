@@ -6,3 +6,5 @@ pub mod Free
 pub mod Copy
 pub mod Cubes
 pub mod Entry
+pub mod Asking
+pub mod Kept

@@ -1,12 +1,13 @@
 //! The key of the function by which a pool finds an equal node.
 
 ghost use Rattle.std.specs.Prelude.{◌≡◌};
-ghost use Rattle.core.specs.Hash.DefaultHasher.{with_keys};
+ghost use Rattle.std.specs.List.{fold};
+ghost use Rattle.std.specs.Hash as fed;
+ghost use Rattle.std.specs.Hash.FoldHasher.{initial, write};
 
-use core::hash::keyed_hasher;
-use std::hash::{BuildHasher, DefaultHasher};
+use std::hash::{BuildHasher, FoldHasher, Hasher};
 
-/// The key of a hash function, SipHash-1-3 of Aumasson and Bernstein: two words of any value.
+/// The key of a hash function, that of std's `FoldHasher` begun with two words of any value.
 ///
 /// Who knows the key can choose nodes that meet in the pool's table, which makes it slow and no
 /// answer wrong. A pool that holds what a stranger wrote is to have a key that the stranger can't
@@ -26,11 +27,15 @@ impl HashKey {
 }
 
 impl BuildHasher for HashKey {
-    type Hasher = DefaultHasher;
+    type Hasher = FoldHasher;
 
-    ghost build_hasher = { λ key. with_keys key.first key.second };
+    ghost build_hasher = { λ key.
+        fold write (fold write initial (fed.u64 key.first)) (fed.u64 key.second) };
 
-    fn build_hasher(&self) -> DefaultHasher {
-        keyed_hasher(self.first, self.second)
+    fn build_hasher(&self) -> FoldHasher {
+        let mut hasher = FoldHasher::default();
+        hasher.write_u64(self.first);
+        hasher.write_u64(self.second);
+        hasher
     }
 }

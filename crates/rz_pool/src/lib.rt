@@ -2,6 +2,7 @@
 //! equal trees.
 #![tactic(auto)]
 
+mod answers;
 mod copies;
 mod counts;
 mod cubes;
@@ -9,9 +10,11 @@ mod entries;
 mod formers;
 mod forms;
 mod free;
+mod kept;
 mod keys;
 mod kids;
 mod pool;
+mod questions;
 mod spans;
 mod waiting;
 
@@ -21,4 +24,5 @@ pub use entries::{Entry, Last, deeper, last_entry, one_more};
 pub use keys::HashKey;
 pub use kids::{one_kid, three_kids, two_kids};
 pub use pool::Pool;
+pub use questions::{Question, VariableChange};
 pub use waiting::add_all;

@@ -1,11 +1,12 @@
 //! Nodes that are kept once each.
 
-ghost use Rattle.std.specs.Prelude.{IsTrue, ◌≡◌, [], Some, ◌+◌, ◌<◌, ◌≤◌, ◌↔◌, ℕ, length, take, slice_get, Contains, IsOk, IfOk, OnOk, OnErr};
+ghost use Rattle.std.specs.Prelude.{IsTrue, ◌≡◌, [], Some, ◌+◌, ◌<◌, ◌≤◌, ◌↔◌, ℕ, length, take, slice_get, Contains, IsOk, IfOk, OnOk, OnErr, IfSome};
 ghost use Rattle.rz_rules.specs.Tree.{HasForm, tree_of, tree_over, trees_in};
 ghost use Rattle.rz_rules.specs.Substitution.{NoneFrom};
 ghost use Rattle.rz_pool.specs.Free.{free_bound, free_least, NoneBetween, AreSpansOf};
 ghost use Rattle.rz_pool.specs.Pool.{IsPool, Grows, Makes};
 
+use crate::kept::Kept;
 use crate::keys::HashKey;
 use crate::spans::Spans;
 use indexmap::IndexMap;
@@ -18,19 +19,23 @@ use std::marker::Model;
 pub struct Pool {
     /// Each node, with the spans of the free variables of its tree.
     nodes: IndexMap<Node, Spans, HashKey>,
+    /// Answers of questions on these trees.
+    pub(crate) kept: Kept,
 }
 
 impl Model for Pool {
     ghost use Rattle.indexmap.specs.IndexMap.{keys, values, spare};
     ghost use Rattle.rz_pool.specs.Pool.{Contents, IsPool};
     ghost use Rattle.rz_pool.specs.Free.{HaveSpans};
+    ghost use Rattle.rz_pool.specs.Kept.{AreRight, pairs_of};
 
     ghost Value = { Contents };
 
     ghost view = { λ pool. record { nodes = keys pool.nodes; spare = spare pool.nodes } };
 
     ghost invariant = { λ pool. IsPool (keys pool.nodes)
-        × HaveSpans (keys pool.nodes) (values pool.nodes) };
+        × HaveSpans (keys pool.nodes) (values pool.nodes)
+        × AreRight (keys pool.nodes) (pairs_of pool.kept.table) };
 }
 
 impl Pool {
@@ -50,6 +55,7 @@ impl Pool {
     {
         Pool {
             nodes: IndexMap::with_hasher(alloc, key),
+            kept: Kept::nothing(),
         }
     }
 
@@ -85,9 +91,23 @@ impl Pool {
         ensures grows { Grows self.old.nodes self.new.nodes }
         ensures pool { IsPool self.new.nodes }
     {
+        if let Some(id) = self.find(&node) {
+            return Ok(id);
+        }
         let spans = self.spans_of(&node);
         let (id, _) = self.nodes.insert_full(node, spans)?;
         Ok(id as u64)
+    }
+
+    /// The id of the equal node, where there is one.
+    fn find(&self, node: &Node) -> Option<u64>
+        ensures found { IfSome result (λ id. slice_get self.now.nodes id ≡ Some node.now) }
+        ensures pool { IsPool self.now.nodes }
+    {
+        match self.nodes.get_index_of(node) {
+            Some(id) => Some(id as u64),
+            None => None,
+        }
     }
 
     /// The node of an id of this pool.
@@ -174,6 +194,7 @@ impl Pool {
         ensures spare { self.old.spare ≤ self.new.spare }
         ensures pool { IsPool self.new.nodes }
     {
+        self.kept.clear();
         self.nodes.truncate(mark as usize);
     }
 

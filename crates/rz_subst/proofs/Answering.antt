@@ -15,7 +15,7 @@ use Rattle.rz_subst.specs.Walk.{IsAnswerOf}
 pub raising_along : (a b c d : Depth) → a ≡ c → b ≡ d → raising a b ≡ raising c d
 raising_along a b c d e f = λ i. raising (e i) (f i)
 
-abbrev blank_node : Node
+abbrev pub blank_node : Node
 blank_node = record { kind = CubeOne; number = 0; name = []; kids = [] }
 
 module _ (nodes : List Node) (pool : IsPool nodes) where

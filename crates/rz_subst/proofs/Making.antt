@@ -1,74 +1,45 @@
 -- The answers of the places in a tree, while they are made.
-use Rattle.std.proofs.Common.{◌≡◌, ℕ, ◌<◌, ◌^◌, Bool, true, false, cond, List, [], ◌∷◌, ◌++◌, Option, Some, IfSome, ◌+◌, get_or, length, map, All, Contains, slice_get, unwrap_or, refl, sym, ap, subst, ◌∙◌, ◌⊎◌, inl, inr, true≢false, arith}
-use Rattle.std.proofs.lemmas.List.{length_push, length-map, get_or-map, get_or_append_left}
-use Rattle.std.proofs.lemmas.List.Elements.{All-head, All-tail, All-cons, All-nil, All-weaker, Contains-push, Contains-push_cases, Contains-get_or}
+use Rattle.std.proofs.Common.{◌≡◌, ℕ, suc, ◌<◌, ◌≤◌, ◌^◌, List, [], ◌∷◌, ◌++◌, Some, length, map, reverse, take, drop, All, slice_get, refl, sym, ap, subst, ◌∙◌, true≢false, arith}
+use Rattle.std.proofs.lemmas.List.{length-map, length-take, length-reverse, take-map}
+use Rattle.std.proofs.lemmas.List.Elements.{All-cons, All-nil, All-take}
+use Rattle.std.proofs.Math.Seq.{take-append_seam}
 use Rattle.rz_rules.specs.declared.kinds.Kind.{Kind}
 use Rattle.rz_rules.specs.declared.kinds.Role.{Role}
 use Rattle.rz_rules.specs.declared.kinds.Role.TheVariants.{Variable, Declared, Former}
 use Rattle.rz_rules.specs.declared.kinds.Slot.{Slot}
+use Rattle.rz_rules.specs.declared.kinds.Sort.{Sort}
 use Rattle.rz_rules.specs.declared.kinds.Space.{Space}
-use Rattle.rz_rules.specs.declared.kinds.Space.TheVariants.{Points, Terms}
 use Rattle.rz_rules.specs.declared.nodes.Node.{Node}
-use Rattle.rz_rules.specs.Form.{form, is_numbered}
-use Rattle.rz_rules.specs.Tree.{Tree, Trees, At, Nil, trees_of, sort_of, trees_in, tree_over, tree_of}
-use Rattle.rz_rules.specs.Substitution.{Depth, Changes, Change, Renumbered, Replaced, changed, changed_kids, changed_node, changed_variable, first_slot, other_slots, IndicesBelow, NoneFrom}
+use Rattle.rz_rules.specs.Form.{form, is_numbered, bound}
+use Rattle.rz_rules.specs.Tree.{Tree, Trees, At, Nil, And, HasForm, trees_of, sort_of, kind_at, trees_in, tree_over, tree_of}
+use Rattle.rz_rules.specs.Substitution.{Depth, Changes, Change, Renumbered, Replaced, changed, changed_kids, changed_node, changed_variable, first_slot, other_slots, total, IndicesBelow}
 use Rattle.rz_pool.specs.Counts.{depth_of}
-use Rattle.rz_pool.specs.Free.{free_bound, free_least}
-use Rattle.rz_rules.specs.Tree.{HasForm}
-use Rattle.rz_pool.specs.Pool.{IsPool, Grows}
-use Rattle.rz_pool.proofs.Nodes.{Grows-same, Grows-trans, length-Grows, KeepsTrees-Grows, slice_get-front, IsPool-front}
+use Rattle.rz_subst.specs.declared.tasks.Task.TheVariants.{Visit, Make}
 use Rattle.rz_subst.specs.declared.walk.Extent.{Extent}
 use Rattle.rz_subst.specs.declared.walk.Place.{Place}
 use Rattle.rz_subst.specs.declared.walk.Change.TheVariants as answers
-use Rattle.rz_subst.specs.contracts.walk.PlacePartialEq.TheImpl.{eq-value}
 use Rattle.rz_subst.specs.Sorts.{variable_form, sort_changed}
-use Rattle.rz_subst.specs.Walk.{kid_place, kid_places, walked, places_below, shared_place, next_below, lies_past, place_where, IsBeyond, IsKid, KeepsTo, answer, AreSettled, HasMisfit, IsMade, IsChange, FitsChange, KeepsSorts, new_id}
-use Rattle.rz_subst.proofs.Places.{depth_kid, places_Decides}
-use Rattle.rz_subst.proofs.Sharing.{id-shared, answer-shared}
-use Rattle.rz_subst.proofs.Listing.{each, below_low, settled_weaker}
+use Rattle.rz_subst.specs.Tasks.{with_kids, place_of, job_of, jobs_of, results_of, count_of, kid_count, kid_answers, after_job, after_jobs, IsReady, AreReady, Fits, weight, weights, total_weight}
+use Rattle.rz_subst.specs.Walk.{KeepsTo, answer, IsChange, FitsChange, KeepsSorts}
+use Rattle.rz_subst.proofs.Jobs.{count-trees, count-changed, visits, visits_after, visits_ready, visits_fit, visits_live, visits_weight, answers as kid_trees, answers_are, length-answers}
 
--- the kids of a place that have their answers
-module _ (made : Place → Option ℕ) (changes : Changes) (nodes : List Node) (place : Place) where
-  new_id-made : (kid : Place) (done : IsMade made changes nodes nodes kid) → new_id made kid ≡ done.id
-  new_id-made kid done = ap (λ (o : Option ℕ). unwrap_or o 0) done.at
+-- the sorts of trees
+abbrev sorts_in : Trees → List Sort
+sorts_in Nil = []
+sorts_in (And first rest) = sort_of first ∷ sorts_in rest
 
-  tree_made : (kid : Place) → IsMade made changes nodes nodes kid → tree_of nodes (new_id made kid) ≡ answer changes nodes kid
-  tree_made kid done = ap (tree_of nodes) (new_id-made kid done) ∙ done.tree
+sorts-trees : (trees : List Tree) → sorts_in (trees_of trees) ≡ map sort_of trees
+sorts-trees [] = refl
+sorts-trees (t ∷ ts) = ap (λ (sorts : List Sort). sort_of t ∷ sorts) (sorts-trees ts)
 
-  made_trees : (slots : List Slot) (kids : List ℕ) → All (IsMade made changes nodes nodes) (kid_places place slots kids)
-      → trees_of (map (tree_of nodes) (map (new_id made) (kid_places place slots kids))) ≡ changed_kids changes (depth_of place.depth) slots (trees_of (map (tree_of nodes) kids))
-  made_trees slots [] done = refl
-  made_trees slots (kid ∷ kids) done =
-      let P = IsMade made changes nodes nodes in
-      let here = kid_place place (first_slot slots) kid in
-      let rest = kid_places place (other_slots slots) kids in
-      let first : tree_of nodes (new_id made here) ≡ changed changes _ (tree_of nodes kid) =
-      tree_made here (All-head P here rest done) ∙ ap (λ (d : Depth). changed changes d (tree_of nodes kid)) (depth_kid place (first_slot slots) kid) in
-      let others = made_trees (other_slots slots) kids (All-tail P here rest done) in
-      cc
+sorts-changed : (changes : Changes) → KeepsSorts changes → (depth : Depth) (slots : List Slot) (kids : Trees) → sorts_in (changed_kids changes depth slots kids) ≡ sorts_in kids
+sorts-changed changes keeps depth slots Nil = refl
+sorts-changed changes keeps depth slots (And kid kids) =
+    λ i. sort_changed changes keeps (total depth (bound (first_slot slots))) kid i ∷ sorts-changed changes keeps depth (other_slots slots) kids i
 
-  made_sorts : KeepsSorts changes → (slots : List Slot) (kids : List ℕ) → All (IsMade made changes nodes nodes) (kid_places place slots kids)
-      → map sort_of (map (tree_of nodes) (map (new_id made) (kid_places place slots kids))) ≡ map sort_of (map (tree_of nodes) kids)
-  made_sorts keeps slots [] done = refl
-  made_sorts keeps slots (kid ∷ kids) done =
-      let P = IsMade made changes nodes nodes in
-      let here = kid_place place (first_slot slots) kid in
-      let rest = kid_places place (other_slots slots) kids in
-      let first : sort_of (tree_of nodes (new_id made here)) ≡ sort_of (tree_of nodes kid) =
-      ap sort_of (tree_made here (All-head P here rest done)) ∙ sort_changed changes keeps (depth_of here.depth) (tree_of nodes kid) in
-      let others = made_sorts keeps (other_slots slots) kids (All-tail P here rest done) in
-      cc
-
-  made_live : (slots : List Slot) (kids : List ℕ) → All (IsMade made changes nodes nodes) (kid_places place slots kids)
-      → All (λ id. id < length nodes) (map (new_id made) (kid_places place slots kids))
-  made_live slots [] done = All-nil (λ id. id < length nodes)
-  made_live slots (kid ∷ kids) done =
-      let P = IsMade made changes nodes nodes in
-      let here = kid_place place (first_slot slots) kid in
-      let rest = kid_places place (other_slots slots) kids in
-      let first = All-head P here rest done in
-      let live : new_id made here < length nodes = omega (arith, new_id-made here first, first.within) in
-      All-cons (λ id. id < length nodes) (new_id made here) (map (new_id made) rest) live (made_live (other_slots slots) kids (All-tail P here rest done))
+drop-append_seam : (xs ys : List Tree) → drop (length xs) (xs ++ ys) ≡ ys
+drop-append_seam [] ys = refl
+drop-append_seam (x ∷ xs) ys = drop-append_seam xs ys
 
 -- the node at a place
 pub record IsNodeAt (nodes : List Node) (place : Place) (node : Node) : Type 0 where
@@ -171,236 +142,88 @@ module _ (changes : Changes) (nodes : List Node) (place : Place) (node : Node) (
   pub declared_tree : (form node.kind).role ≡ Declared → tree_of nodes place.id ≡ answer changes nodes place
   declared_tree declared = known.tree ∙ sym (answer_is Declared declared)
 
-  -- a node the places of whose kids have their answers
-  module _ (reach : Space → Extent) (goes : ¬ (IsBeyond reach nodes place)) (made : Place → Option ℕ)
-      (all : (kid : Place) → IsKid reach nodes place kid → IsMade made changes nodes nodes kid) where
-    abbrev shared : Place → Place
-    shared kid = shared_place reach nodes kid
+  -- a node whose kids have their answers last among the results
+  module _ (news : List ℕ) (ready : IsReady changes (job_of nodes (Make place)) (results_of nodes news)) where
+    abbrev ids : List ℕ
+    ids = take (length node.kids) (reverse news)
 
-    pub below_made : All (IsMade made changes nodes nodes) (next_below reach nodes place node)
-    below_made k d l =
-        all (get_or (next_below reach nodes place node) k d)
-        (record { node = node; at = known.at; goes = goes; is = Contains-get_or (next_below reach nodes place node) k d l })
+    former : (form node.kind).role ≡ Former
+    former = ap (λ (t : Tree). (form (kind_at t)).role) (sym known.tree) ∙ ready.0
 
-    -- the answer that serves for a place
-    abbrev served : Place → Option ℕ
-    served kid = made (shared kid)
+    pub count : kid_count (tree_of nodes place.id) ≡ length node.kids
+    count = ap kid_count known.tree ∙ count-trees (map (tree_of nodes) node.kids) ∙ length-map node.kids (tree_of nodes)
 
-    module _ (keeps : KeepsTo reach changes) (former : (form node.kind).role ≡ Former) (ids : List ℕ) (is : ids ≡ map (new_id made) (next_below reach nodes place node)) where
-      serves : (kid : Place) → IsMade made changes nodes nodes (shared kid) → IsMade served changes nodes nodes kid
-      serves kid done = record {
-        live = omega (arith, done.live, id-shared reach nodes kid);
-        id = done.id;
-        at = done.at;
-        within = done.within;
-        tree = done.tree ∙ answer-shared reach changes keeps nodes kid;
-      }
+    new_trees : trees_of (map (tree_of nodes) ids) ≡ new_kids
+    new_trees =
+        ap trees_of (sym (take-map (tree_of nodes) (length node.kids) (reverse news)))
+        ∙ ap (λ n. trees_of (take n (results_of nodes news))) (sym count)
+        ∙ ready.1 ∙ ap (kid_answers changes depth) known.tree
 
-      below_served : All (IsMade served changes nodes nodes) (places_below place node)
-      below_served k d l =
-          let kids = places_below place node in
-          let done = below_made k (shared d) (omega (arith, length-map kids shared)) in
-          serves (get_or kids k d) (subst (IsMade made changes nodes nodes) (get_or-map shared kids k d (shared d) l) done)
+    length_ids : length ids ≡ length node.kids
+    length_ids =
+        sym (length-map ids (tree_of nodes)) ∙ sym (count-trees (map (tree_of nodes) ids)) ∙ ap count_of new_trees
+        ∙ count-changed changes depth (form node.kind).kids kids
+        ∙ count-trees (map (tree_of nodes) node.kids) ∙ length-map node.kids (tree_of nodes)
 
-      ids_served : (kids : List Place) → map (new_id made) (map shared kids) ≡ map (new_id served) kids
-      ids_served [] = refl
-      ids_served (kid ∷ kids) = ap (λ (ks : List ℕ). new_id made (shared kid) ∷ ks) (ids_served kids)
+    pub enough_news : length node.kids ≤ length news
+    enough_news = omega (arith, length_ids, length-take (length node.kids) (reverse news), length-reverse news)
 
-      walks : places_below place node ≡ kid_places place (form node.kind).kids node.kids
-      walks = ap (λ (role : Role). walked role (kid_places place (form node.kind).kids node.kids)) former
+    new_sorts : KeepsSorts changes → map sort_of (map (tree_of nodes) ids) ≡ map sort_of (map (tree_of nodes) node.kids)
+    new_sorts keeps =
+        sym (sorts-trees (map (tree_of nodes) ids)) ∙ ap sorts_in new_trees
+        ∙ sorts-changed changes keeps depth (form node.kind).kids kids ∙ sorts-trees (map (tree_of nodes) node.kids)
 
-      kids_made : All (IsMade served changes nodes nodes) (kid_places place (form node.kind).kids node.kids)
-      kids_made = subst (All (IsMade served changes nodes nodes)) walks below_served
-
-      new_ids : ids ≡ map (new_id served) (kid_places place (form node.kind).kids node.kids)
-      new_ids = is ∙ (ids_served (places_below place node) ∙ ap (map (new_id served)) walks)
-
-      pub remade_form : KeepsSorts changes → HasForm (trees_in nodes) (length nodes) (record { kind = node.kind; number = node.number; name = node.name; kids = ids })
-      remade_form keeps_sorts = record {
-        kids = subst (All (λ id. id < length nodes)) (sym new_ids) (made_live served changes nodes place (form node.kind).kids node.kids kids_made);
-        sorts = ap (λ (ks : List ℕ). map sort_of (map (tree_of nodes) ks)) new_ids ∙ (made_sorts served changes nodes place keeps_sorts (form node.kind).kids node.kids kids_made ∙ known.form.sorts);
-        label = known.form.label;
-      }
-
-      pub remade_tree : tree_over (trees_in nodes) (record { kind = node.kind; number = node.number; name = node.name; kids = ids }) ≡ answer changes nodes place
-      remade_tree =
-          ap (At node.kind node.number node.name) (ap (λ (ks : List ℕ). trees_of (map (tree_of nodes) ks)) new_ids ∙ made_trees served changes nodes place (form node.kind).kids node.kids kids_made)
-          ∙ sym (answer_is Former former)
-
--- whether the free variables of a tree at a place are known to be further out than the first that is reached
-abbrev past_in : (Space → Extent) → Place → Tree → Space → Bool
-past_in reach place tree space = lies_past (reach space).start (depth_of place.depth space) (free_bound space tree) (free_least space tree)
-
--- the answers in a pool that has grown
-module _ (made : Place → Option ℕ) (changes later : Changes) (from to : List Node) (grows : Grows from to) (same : later ≡ changes) where
-  answer_kept : (place : Place) → place.id < length from → answer later to place ≡ answer changes from place
-  answer_kept place l =
-      ap (λ (t : Tree). changed later (depth_of place.depth) t) (KeepsTrees-Grows from to grows place.id l)
-      ∙ ap (λ (c : Changes). changed c (depth_of place.depth) (tree_of from place.id)) same
-
-  shared_kept : (reach : Space → Extent) (place : Place) → place.id < length from → shared_place reach to place ≡ shared_place reach from place
-  shared_kept reach place l =
-      ap (λ (tree : Tree). place_where reach place (past_in reach place tree Points) (past_in reach place tree Terms))
-      (KeepsTrees-Grows from to grows place.id l)
-
-  all_shared_kept : (reach : Space → Extent) (places : List Place) → All (λ (place : Place). place.id < length from) places
-      → map (shared_place reach to) places ≡ map (shared_place reach from) places
-  all_shared_kept reach [] live = refl
-  all_shared_kept reach (place ∷ places) live =
-      let first = shared_kept reach place (All-head (λ (p : Place). p.id < length from) place places live) in
-      let others = all_shared_kept reach places (All-tail (λ (p : Place). p.id < length from) place places live) in
-      λ i. first i ∷ others i
-
-  kid_kept : (reach : Space → Extent) (place kid : Place) → IsPool from → place.id < length from → IsKid reach to place kid → IsKid reach from place kid
-  kid_kept reach place kid pool l is =
-      let at : slice_get from place.id ≡ Some is.node = slice_get-front from grows.added place.id is.node l (subst (λ (ns : List Node). slice_get ns place.id ≡ Some is.node) grows.is is.at) in
-      let low = below_low place place.id is.node (pool.forms place.id is.node at).kids in
-      let live : All (λ (p : Place). p.id < length from) (places_below place is.node) =
-      All-weaker (λ (p : Place). p.id < place.id) (λ (p : Place). p.id < length from) (λ p m. omega arith) (places_below place is.node) low in
-      record {
-        node = is.node;
-        at = at;
-        goes = λ beyond. is.goes (λ s. subst (λ t. IfSome (reach s).start (λ start. NoneFrom s (start + depth_of place.depth s) t)) (sym (KeepsTrees-Grows from to grows place.id l)) (beyond s));
-        is = subst (λ (ps : List Place). Contains ps kid) (all_shared_kept reach (places_below place is.node) live) is.is;
-      }
-
-  made_kept : (place : Place) → IsMade made changes from to place → IsMade made later to to place
-  made_kept place done = record {
-    live = omega (arith, done.live, length-Grows from to grows);
-    id = done.id;
-    at = done.at;
-    within = done.within;
-    tree = done.tree ∙ sym (answer_kept place done.live);
-  }
-
--- some places are still to be made, each after its kids, and the others have their answers
-pub record IsMaking (reach : Space → Extent) (made : Place → Option ℕ) (changes : Changes) (from to : List Node) (every places : List Place) : Type 0 where
-  pub done : (place : Place) → Contains every place → Contains places place ⊎ IsMade made changes from to place
-  pub among : All (λ place. Contains every place) places
-  pub settled : AreSettled reach from places (IsMade made changes from to)
-  pub live : All (λ (place : Place). place.id < length from) places
-  pub grows : Grows from to
-  pub pool : IsPool to
-
-pub IsMaking-start : (reach : Space → Extent) (made : Place → Option ℕ) (changes : Changes) (from : List Node) (places : List Place) → AreSettled reach from places (λ _. ⊥)
-    → All (λ (place : Place). place.id < length from) places → IsPool from → IsMaking reach made changes from from places places
-IsMaking-start reach made changes from places settled live pool = record {
-  done = λ place among. inl among;
-  among = λ k d l. Contains-get_or places k d l;
-  settled = settled_weaker reach from places (λ _. ⊥) (IsMade made changes from from) (λ q never. absurd never) settled;
-  live = live;
-  grows = Grows-same from from refl;
-  pool = pool;
-}
-
-pub IsMaking-end : (reach : Space → Extent) (made : Place → Option ℕ) (changes : Changes) (from to : List Node) (every places : List Place)
-    → IsMaking reach made changes from to every places → length places ≡ 0 → (place : Place) → Contains every place → IsMade made changes from to place
-IsMaking-end reach made changes from to every places making none place among =
-    elim (making.done place among) [ inl left ↦ absurd (omega (arith, left.1)) | inr done ↦ done ]
-
-settled_last : (reach : Space → Extent) (nodes : List Node) (places : List Place) (part : Place) (S : Place → Type 0) → AreSettled reach nodes (places ++ part ∷ []) S
-    → (kid : Place) → IsKid reach nodes part kid → S kid
-settled_last reach nodes [] part S settled kid is = elim (settled.0 kid is) [ inl after ↦ absurd (omega (arith, after.1)) | inr s ↦ s ]
-settled_last reach nodes (place ∷ places) part S settled kid is = settled_last reach nodes places part S settled.1 kid is
-
-settled_pop : (reach : Space → Extent) (nodes : List Node) (places : List Place) (part : Place) (S T : Place → Type 0) → ((q : Place) → S q → T q) → T part
-    → AreSettled reach nodes (places ++ part ∷ []) S → AreSettled reach nodes places T
-settled_pop reach nodes [] part S T more here settled = tt
-settled_pop reach nodes (place ∷ places) part S T more here settled = (
-  (λ q is. elim (settled.0 q is) [
-    | inl after ↦ elim (Contains-push_cases places part q after) [
-      | inl before ↦ inl before
-      | inr last ↦ inr (subst T last here)
-    ]
-    | inr s ↦ inr (more q s)
-  ]),
-  settled_pop reach nodes places part S T more here settled.1,
-)
-
--- the last of the places
-module _ (reach : Space → Extent) (made : Place → Option ℕ) (changes : Changes) (from to : List Node) (every places : List Place) (part : Place)
-    (making : IsMaking reach made changes from to every (places ++ part ∷ [])) where
-  last_live : part.id < length from
-  last_live = each (λ (place : Place). place.id < length from) (places ++ part ∷ []) part making.live (Contains-push places part)
-
-  last_kids : (kid : Place) → IsKid reach from part kid → IsMade made changes from to kid
-  last_kids kid is = settled_last reach from places part (IsMade made changes from to) making.settled kid is
-
-  -- it is made
-  module _ (more : Place → Option ℕ) (new : List Node) (id : ℕ) (within : id < length new) (tree : tree_of new id ≡ answer changes from part)
-      (grows : Grows to new) (pool : IsPool new) (updates : (q : Place) → more q ≡ cond (eq-value.it part q) (Some id) (made q)) where
-    here : IsMade more changes from new part
-    here = record {
-      live = last_live;
-      id = id;
-      at = updates part ∙ ap (λ b. cond b (Some id) (made part)) ((places_Decides part part).1 refl);
-      within = within;
-      tree = tree;
+    pub remade_form : KeepsSorts changes → All (λ new. new < length nodes) (reverse news) → HasForm (trees_in nodes) (length nodes) (with_kids node ids)
+    remade_form keeps within = record {
+      kids = All-take (λ new. new < length nodes) (length node.kids) (reverse news) within;
+      sorts = new_sorts keeps ∙ known.form.sorts;
+      label = known.form.label;
     }
 
-    still : (q : Place) → IsMade made changes from to q → IsMade more changes from new q
-    still q done = by (eq-value.it part q) refl
-      where
-        by : (b : Bool) → eq-value.it part q ≡ b → IsMade more changes from new q
-        by true e = subst (IsMade more changes from new) ((places_Decides part q).0 e) here
-        by false e = record {
-          live = done.live;
-          id = done.id;
-          at = updates q ∙ (ap (λ b. cond b (Some id) (made q)) e ∙ done.at);
-          within = omega (arith, done.within, length-Grows to new grows);
-          tree = KeepsTrees-Grows to new grows done.id done.within ∙ done.tree;
-        }
+    pub remade_tree : tree_over (trees_in nodes) (with_kids node ids) ≡ answer changes nodes place
+    remade_tree = ap (At node.kind node.number node.name) new_trees ∙ sym (answer_is Former former)
 
-    before : (P : Place → Type 0) → All P (places ++ part ∷ []) → All P places
-    before P all k d l = subst P (get_or_append_left places (part ∷ []) d k l) (all k d (omega (arith, length_push places part)))
+  -- a node goes on to its kids
+  module _ (reach : Space → Extent) (keeps : KeepsTo reach changes) (former : (form (kind_at (tree_of nodes place.id))).role ≡ Former) where
+    abbrev slots : List Slot
+    slots = (form node.kind).kids
 
-    IsMaking-pop : IsMaking reach more changes from new every places
-    IsMaking-pop = record {
-      done = λ q among. elim (making.done q among) [
-        | inl listed ↦ elim (Contains-push_cases places part q listed) [
-          | inl before ↦ inl before
-          | inr last ↦ inr (subst (IsMade more changes from new) last here)
-        ]
-        | inr done ↦ inr (still q done)
-      ];
-      among = before (λ place. Contains every place) making.among;
-      settled = settled_pop reach from places part (IsMade made changes from to) (IsMade more changes from new) still here making.settled;
-      live = before (λ (place : Place). place.id < length from) making.live;
-      grows = Grows-trans from to new making.grows grows;
-      pool = pool;
-    }
+    pub goes_on : (results : List Tree) → after_jobs changes (jobs_of nodes (Make place ∷ visits reach changes keeps nodes place slots node.kids)) results
+        ≡ after_job changes (job_of nodes (Visit place)) results
+    goes_on results =
+        let new : List Tree = kid_trees reach changes keeps nodes place slots node.kids in
+        let count : kid_count (tree_of nodes place.id) ≡ length new = ap kid_count known.tree ∙ count-trees (map (tree_of nodes) node.kids) ∙ length-map node.kids (tree_of nodes)
+        ∙ sym (length-answers reach changes keeps nodes place slots node.kids) in
+        ap (λ (rs : List Tree). answer changes nodes place ∷ rs)
+        (ap (drop (kid_count (tree_of nodes place.id))) (visits_after reach changes keeps nodes place slots node.kids results)
+        ∙ ap (λ n. drop n (new ++ results)) count ∙ drop-append_seam new results)
 
--- the last of the places, in the pool as it is by then
-module _ (reach : Space → Extent) (made : Place → Option ℕ) (changes later : Changes) (from to : List Node) (every all places : List Place) (part : Place)
-    (going : IsMaking reach made changes from to every all) (popped : all ≡ places ++ part ∷ []) (same : later ≡ changes) where
-  making : IsMaking reach made changes from to every (places ++ part ∷ [])
-  making = subst (IsMaking reach made changes from to every) popped going
+    pub goes_ready : (results : List Tree) → AreReady changes (jobs_of nodes (Make place ∷ visits reach changes keeps nodes place slots node.kids)) results
+    goes_ready results =
+        let new : List Tree = kid_trees reach changes keeps nodes place slots node.kids in
+        let count : kid_count (tree_of nodes place.id) ≡ length new = ap kid_count known.tree ∙ count-trees (map (tree_of nodes) node.kids) ∙ length-map node.kids (tree_of nodes)
+        ∙ sym (length-answers reach changes keeps nodes place slots node.kids) in
+        let last : trees_of (take (kid_count (tree_of nodes place.id)) (after_jobs changes (jobs_of nodes (visits reach changes keeps nodes place slots node.kids)) results)) ≡ kid_answers changes depth (tree_of nodes place.id) =
+        ap (λ (rs : List Tree). trees_of (take (kid_count (tree_of nodes place.id)) rs)) (visits_after reach changes keeps nodes place slots node.kids results)
+        ∙ ap (λ n. trees_of (take n (new ++ results))) count ∙ ap trees_of (take-append_seam new results)
+        ∙ answers_are reach changes keeps nodes place slots node.kids ∙ sym (ap (kid_answers changes depth) known.tree) in
+        ((former, last), visits_ready reach changes keeps nodes place slots node.kids results)
 
-  live : part.id < length from
-  live = last_live reach made changes from to every places part making
+    pub goes_fit : Fits changes (job_of nodes (Visit place)) → All (Fits changes) (jobs_of nodes (Make place ∷ visits reach changes keeps nodes place slots node.kids))
+    goes_fit fits =
+        let role : (form node.kind).role ≡ Former = ap (λ (t : Tree). (form (kind_at t)).role) (sym known.tree) ∙ former in
+        let whole : IndicesBelow (2 ^ 32) (At node.kind node.number node.name new_kids) = subst (IndicesBelow (2 ^ 32)) (answer_is Former role) fits in
+        All-cons (Fits changes) (job_of nodes (Make place)) (jobs_of nodes (visits reach changes keeps nodes place slots node.kids)) tt
+        (visits_fit reach changes keeps nodes place slots node.kids whole.1)
 
-  answer_now : answer later to part ≡ answer changes from part
-  answer_now = answer_kept made changes later from to going.grows same part live
+    pub goes_live : place.id < length nodes → All (λ task. (place_of task).id < length nodes) (Make place ∷ visits reach changes keeps nodes place slots node.kids)
+    goes_live live =
+        let low : All (λ kid. kid < length nodes) node.kids = λ k d l. omega (arith, known.form.kids k d l) in
+        All-cons (λ task. (place_of task).id < length nodes) (Make place) (visits reach changes keeps nodes place slots node.kids) live
+        (visits_live reach changes keeps nodes place slots node.kids low)
 
-  pub live_now : part.id < length to
-  live_now = omega (arith, live, length-Grows from to going.grows)
-
-  pool_before : IsPool from
-  pool_before = IsPool-front from going.grows.added (subst IsPool going.grows.is going.pool)
-
-  pub kids_now : (kid : Place) → IsKid reach to part kid → IsMade made later to to kid
-  kids_now kid is =
-      made_kept made changes later from to going.grows same kid
-      (last_kids reach made changes from to every places part making kid (kid_kept made changes later from to going.grows same reach part kid pool_before live is))
-
-  pub misfit_now : ¬ (IndicesBelow (2 ^ 32) (answer later to part)) → HasMisfit changes from every
-  misfit_now large = record {
-    place = part;
-    listed = each (λ place. Contains every place) (places ++ part ∷ []) part making.among (Contains-push places part);
-    large = λ fits. large (subst (IndicesBelow (2 ^ 32)) (sym answer_now) fits);
-  }
-
-  pub made_now : (more : Place → Option ℕ) (new : List Node) (id : ℕ) → (id < length new) × (tree_of new id ≡ answer later to part) → Grows to new → IsPool new
-      → ((q : Place) → more q ≡ cond (eq-value.it part q) (Some id) (made q)) → IsMaking reach more changes from new every places
-  made_now more new id is grows pool updates =
-      IsMaking-pop reach made changes from to every places part making more new id is.0 (is.1 ∙ answer_now) grows pool updates
+    pub goes_lighter : total_weight (jobs_of nodes (Make place ∷ visits reach changes keeps nodes place slots node.kids)) < weight (tree_of nodes place.id)
+    goes_lighter =
+        let kids_weigh = visits_weight reach changes keeps nodes place slots node.kids in
+        let whole : weight (tree_of nodes place.id) ≡ suc (suc (weights (trees_of (map (tree_of nodes) node.kids)))) = ap weight known.tree in
+        omega (arith, kids_weigh, whole)

@@ -1,58 +1,20 @@
 -- Places: when two are the same, and the kids of one.
-use Rattle.std.proofs.Common.{◌≡◌, ℕ, zero, suc, ◌+◌, ◌<◌, ◌&&◌, Bool, true, false, cond, nat_eq, ◌⊎◌, inl, inr, Contains, List, [], ◌∷◌, ◌++◌, length, get_or, take, refl, sym, ap, subst, ◌∙◌, true≢false, arith}
+use Rattle.std.proofs.Common.{◌≡◌, ℕ, zero, suc, ◌+◌, ◌<◌, ◌&&◌, Bool, true, nat_eq, List, [], ◌∷◌, ◌++◌, length, get_or, take, refl, ap, subst, ◌∙◌, arith}
 use Rattle.std.specs.Bool.{Decides}
 use Rattle.std.specs.Cmp.{first_so, second_so, unsigned_Decides}
-use Rattle.std.specs.declared.cmp.Ordering.{Ordering}
-use Rattle.std.specs.declared.cmp.Ordering.TheVariants.{Less, Equal, Greater}
-use Rattle.std.specs.Ordering.{nat_cmp, is_eq, ordering_then}
-use Rattle.std.proofs.lemmas.List.Elements.{Contains-push, Contains-push_cases, Contains-append_left}
 use Rattle.rz_rules.specs.declared.kinds.Slot.{Slot}
 use Rattle.rz_rules.specs.declared.kinds.Space.{Space}
 use Rattle.rz_rules.specs.declared.kinds.Space.TheVariants.{Points, Terms}
 use Rattle.rz_rules.specs.Form.{bound, plain}
 use Rattle.rz_rules.specs.declared.kinds.Sort.TheVariants.{Term}
 use Rattle.rz_rules.specs.Substitution.{none, total, first_slot, other_slots}
-use Rattle.rz_pool.proofs.Orders.{equal_numbers, same_number}
 use Rattle.rz_subst.specs.declared.walk.Place.{Place}
-use Rattle.rz_subst.specs.contracts.walk.PlaceOrd.TheImpl.{cmp-value}
 use Rattle.rz_subst.specs.contracts.walk.PlacePartialEq.TheImpl.{eq-value}
 use Rattle.rz_pool.specs.Counts.{depth_of}
-use Rattle.rz_subst.specs.Walk.{top_place, kid_place, kid_places, Joined}
+use Rattle.rz_subst.specs.Walk.{top_place, kid_place, kid_places}
 
 pub same_counts : (a b : Place) → a.id ≡ b.id → a.depth.points ≡ b.depth.points → a.depth.terms ≡ b.depth.terms → a ≡ b
 same_counts a b id points terms = λ i. record { id = id i; depth = record { points = points i; terms = terms i } }
-
-first_equal : (a b : Ordering) → is_eq (ordering_then a b) ≡ true → is_eq a ≡ true
-first_equal Less b e = e
-first_equal Equal b e = refl
-first_equal Greater b e = e
-
-second_equal : (a b : Ordering) → is_eq (ordering_then a b) ≡ true → is_eq b ≡ true
-second_equal Less b e = absurd (true≢false (sym e))
-second_equal Equal b e = e
-second_equal Greater b e = absurd (true≢false (sym e))
-
-both_equal : (a b : Ordering) → is_eq a ≡ true → is_eq b ≡ true → is_eq (ordering_then a b) ≡ true
-both_equal Less b e f = e
-both_equal Equal b e f = f
-both_equal Greater b e f = e
-
-pub equal_places : (a b : Place) → is_eq (cmp-value.it a b) ≡ true → a ≡ b
-equal_places a b e =
-    let ids = nat_cmp a.id b.id in
-    let points = nat_cmp a.depth.points b.depth.points in
-    let terms = nat_cmp a.depth.terms b.depth.terms in
-    let rest = second_equal ids (ordering_then points terms) e in
-    same_counts a b (equal_numbers a.id b.id (first_equal ids (ordering_then points terms) e))
-    (equal_numbers a.depth.points b.depth.points (first_equal points terms rest))
-    (equal_numbers a.depth.terms b.depth.terms (second_equal points terms rest))
-
-pub same_place : (a : Place) → is_eq (cmp-value.it a a) ≡ true
-same_place a =
-    let ids = nat_cmp a.id a.id in
-    let points = nat_cmp a.depth.points a.depth.points in
-    let terms = nat_cmp a.depth.terms a.depth.terms in
-    both_equal ids (ordering_then points terms) (same_number a.id) (both_equal points terms (same_number a.depth.points) (same_number a.depth.terms))
 
 both_so : (s t : Bool) → s ≡ true → t ≡ true → (s && t) ≡ true
 both_so s t p q = ap (λ b. b && t) p ∙ q
@@ -77,39 +39,6 @@ same_by_test a =
 
 pub places_Decides : (a b : Place) → Decides (eq-value.it a b) (a ≡ b)
 places_Decides a b = (equal_by_test a b, λ e. subst (λ (k : Place). eq-value.it a k ≡ true) e (same_by_test a))
-
--- places that join a set, one by one
-cond_either : (t a : Bool) → cond t true a ≡ true → (t ≡ true) ⊎ (a ≡ true)
-cond_either true a h = inl refl
-cond_either false a h = inr h
-
-cond_second : (t a : Bool) → a ≡ true → cond t true a ≡ true
-cond_second true a h = refl
-cond_second false a h = h
-
-cond_first : (t a : Bool) → t ≡ true → cond t true a ≡ true
-cond_first true a h = refl
-cond_first false a h = absurd (true≢false (sym h))
-
-pub Joined-none : (old : Place → Bool) → Joined old old []
-Joined-none old = record { kept = λ q h. h; added = λ q among. absurd (omega (arith, among.1)); only = λ q h. inl h }
-
-pub Joined-more : (old mid new : Place → Bool) (places : List Place) (x : Place) → Joined old mid places
-    → ((q : Place) → new q ≡ cond (is_eq (cmp-value.it x q)) true (mid q)) → Joined old new (places ++ x ∷ [])
-Joined-more old mid new places x joined updates = record {
-  kept = λ q h. updates q ∙ cond_second (is_eq (cmp-value.it x q)) (mid q) (joined.kept q h);
-  added = λ q among. elim (Contains-push_cases places x q among) [
-    | inl before ↦ updates q ∙ cond_second (is_eq (cmp-value.it x q)) (mid q) (joined.added q before)
-    | inr last ↦ updates q ∙ cond_first (is_eq (cmp-value.it x q)) (mid q) (subst (λ (k : Place). is_eq (cmp-value.it x k) ≡ true) last (same_place x))
-  ];
-  only = λ q h. elim (cond_either (is_eq (cmp-value.it x q)) (mid q) (sym (updates q) ∙ h)) [
-    | inl here ↦ inr (subst (Contains (places ++ x ∷ [])) (equal_places x q here) (Contains-push places x))
-    | inr m ↦ elim (joined.only q m) [
-      | inl o ↦ inl o
-      | inr before ↦ inr (Contains-append_left places (x ∷ []) q before)
-    ]
-  ];
-}
 
 -- the depth of a whole tree, and of a kid
 pub depth_top : (id : ℕ) → depth_of (top_place id).depth ≡ none

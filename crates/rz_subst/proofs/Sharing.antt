@@ -1,5 +1,5 @@
 -- A tree changes alike at two depths, where they differ in no space that is of account.
-use Rattle.std.proofs.Common.{◌≡◌, ℕ, ◌+◌, ◌<◌, ◌≤◌, ◌^◌, ◌==◌, ◌||◌, nat_lt, Bool, true, false, List, Option, None, Some, IfSome, ◌⊎◌, inl, inr, refl, sym, ap, subst, ◌∙◌, add_assoc, arith}
+use Rattle.std.proofs.Common.{◌≡◌, ℕ, ◌+◌, ◌<◌, ◌≤◌, ◌==◌, ◌||◌, nat_lt, Bool, true, false, List, Option, None, Some, IfSome, ◌⊎◌, inl, inr, refl, sym, ap, subst, ◌∙◌, add_assoc, arith}
 use Rattle.std.proofs.lemmas.Bool.{cases_lt}
 use Rattle.std.proofs.lemmas.Bool.Decides.{nat_tests}
 use Rattle.rz_rules.specs.declared.kinds.Kind.{Kind}
@@ -11,7 +11,7 @@ use Rattle.rz_rules.specs.declared.kinds.Space.TheVariants.{Points, Terms}
 use Rattle.rz_rules.specs.declared.nodes.Node.{Node}
 use Rattle.rz_rules.specs.Form.{form, bound}
 use Rattle.rz_rules.specs.Tree.{Tree, Trees, At, Nil, And, tree_of}
-use Rattle.rz_rules.specs.Substitution.{Depth, none, total, Changes, changed_variable, changed_node, changed, changed_kids, first_slot, other_slots, IndicesBelow}
+use Rattle.rz_rules.specs.Substitution.{Depth, none, total, Changes, changed_variable, changed_node, changed, changed_kids, first_slot, other_slots}
 use Rattle.rz_rules.proofs.SubstitutionVariables.{same_here}
 use Rattle.rz_pool.specs.declared.counts.Counts.{Counts}
 use Rattle.rz_pool.specs.Counts.{depth_of}
@@ -19,7 +19,7 @@ use Rattle.rz_pool.specs.Free.{free_bound, free_least, NoneBetweenHere, NoneBetw
 use Rattle.rz_pool.proofs.FreeLeasts.{none_between}
 use Rattle.rz_subst.specs.declared.walk.Extent.{Extent}
 use Rattle.rz_subst.specs.declared.walk.Place.{Place}
-use Rattle.rz_subst.specs.Walk.{answer, KeepsTo, lies_past, is_past, count_where, shared_place, IsFit}
+use Rattle.rz_subst.specs.Walk.{answer, KeepsTo, lies_past, is_past, count_where, shared_place}
 use Rattle.rz_subst.proofs.Staying.{under}
 
 -- the first index that is past the first to change, at a depth and under so many binders more
@@ -206,10 +206,3 @@ module _ (reach : Space → Extent) (changes : Changes) (keeps : KeepsTo reach c
 -- the place that is shared has the same id
 pub id-shared : (reach : Space → Extent) (nodes : List Node) (place : Place) → (shared_place reach nodes place).id ≡ place.id
 id-shared reach nodes place = refl
-
-pub IsFit-shared : (reach : Space → Extent) (changes : Changes) → KeepsTo reach changes → (nodes : List Node) (place : Place) → IsFit changes nodes place
-    → IsFit changes nodes (shared_place reach nodes place)
-IsFit-shared reach changes keeps nodes place fit = record {
-  live = fit.live;
-  indices = subst (IndicesBelow (2 ^ 32)) (sym (answer-shared reach changes keeps nodes place)) fit.indices;
-}

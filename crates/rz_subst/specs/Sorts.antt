@@ -16,7 +16,8 @@ use Rattle.rz_pool.specs.declared.counts.Counts.{Counts}
 use Rattle.rz_pool.specs.Counts.{depth_of}
 use Rattle.rz_pool.specs.Pool.{Grows}
 use Rattle.rz_pool.proofs.Nodes.{length-Grows, KeepsTrees-Grows}
-use Rattle.rz_subst.specs.Walk.{sort_in, HasSort, KeepsSorts, IsValue, putting_reach}
+use Rattle.rz_pool.specs.Asking.{changes_by, NamesNodes}
+use Rattle.rz_subst.specs.Walk.{sort_in, HasSort, KeepsSorts, IsValue, putting_reach, put_change}
 
 -- a variable has the sort of its space, and no kids
 pub variable_form : (kind : Kind) (space : Space) → (form kind).role ≡ Variable space → ((form kind).sort ≡ sort_in space) × ((form kind).kids ≡ [])
@@ -65,3 +66,8 @@ pub kept-putting : (space : Space) (at : Counts) (value : ℕ) (old new : List N
 kept-putting space at value old new (live, sort) grows =
     let same : tree_of new value ≡ tree_of old value = KeepsTrees-Grows old new grows value live in
     ((omega (arith, length-Grows old new grows), ap sort_of same ∙ sort), ap (putting space (depth_of at)) same, ap (putting_reach space at) same)
+
+pub asks-putting : (space : Space) (at : Counts) (value : ℕ) (nodes : List Node) → IsValue space value nodes
+    → NamesNodes nodes (put_change space at value) × (changes_by nodes (put_change space at value) ≡ putting space (depth_of at) (tree_of nodes value))
+asks-putting Points at value nodes (live, sort) = (live, refl)
+asks-putting Terms at value nodes (live, sort) = (live, refl)

@@ -1,19 +1,18 @@
--- How a shared tree is walked: the places in it are listed, each before its kids, and changed from
--- the last to the first.
-use Rattle.std.specs.Prelude.{◌≡◌, ℕ, ◌+◌, ◌<◌, ◌≤◌, ◌^◌, ◌==◌, nat_lt, ◌||◌, ◌&&◌, not, if◌then◌else◌, Bool, true, false, List, [], ◌∷◌, Option, Some, None, IfSome, length, All, Contains, slice_get, map, unwrap_or, ◌⊎◌}
+-- The places of a shared tree, and what becomes of the trees there.
+pub use Rattle.rz_pool.specs.Asking.{IsAnswerOf}
+use Rattle.std.specs.Prelude.{◌≡◌, ℕ, ◌+◌, ◌<◌, ◌≤◌, ◌^◌, ◌==◌, nat_lt, ◌||◌, ◌&&◌, not, if◌then◌else◌, Bool, true, false, List, [], ◌∷◌, Option, Some, None, IfSome, length, ◌⊎◌}
 use Rattle.rz_rules.specs.declared.kinds.Sort.{Sort}
 use Rattle.rz_rules.specs.declared.kinds.Sort.TheVariants.{Point, Term}
 use Rattle.rz_rules.specs.declared.kinds.Space.{Space}
 use Rattle.rz_rules.specs.declared.kinds.Space.TheVariants.{Points, Terms}
-use Rattle.rz_rules.specs.declared.kinds.Role.{Role}
-use Rattle.rz_rules.specs.declared.kinds.Role.TheVariants.{Variable, Declared, Former}
 use Rattle.rz_rules.specs.declared.kinds.Slot.{Slot}
 use Rattle.rz_rules.specs.declared.nodes.Node.{Node}
-use Rattle.rz_rules.specs.Form.{form}
 use Rattle.rz_rules.specs.Tree.{Tree, sort_of, tree_of}
 use Rattle.rz_rules.specs.Substitution.{Depth, Changes, first_slot, other_slots, changed, IndicesBelow, NoneFrom}
 use Rattle.rz_rules.specs.Substitution as meanings
 use Rattle.rz_pool.specs.declared.counts.Counts.{Counts}
+use Rattle.rz_pool.specs.declared.questions.VariableChange.{VariableChange}
+use Rattle.rz_pool.specs.declared.questions.VariableChange.TheVariants.{PutPoint, PutTerm}
 use Rattle.rz_pool.specs.Counts.{depth_of}
 use Rattle.rz_pool.specs.Free.{free_bound, free_least}
 use Rattle.rz_subst.specs.declared.walk.Extent.{Extent}
@@ -47,17 +46,6 @@ abbrev pub kid_places : Place → List Slot → List ℕ → List Place
 kid_places place slots [] = []
 kid_places place slots (kid ∷ kids) =
     kid_place place (first_slot slots) kid ∷ kid_places place (other_slots slots) kids
-
--- variables have no kids, and those of constants and postulates stay as they are
-abbrev pub walked : Role → List Place → List Place
-walked (Variable space) places = []
-walked Declared places = []
-walked Former places = places
-
--- the kids of a node at a place, if they are walked
-abbrev pub places_below : Place → Node → List Place
-places_below place node =
-    walked (form node.kind).role (kid_places place (form node.kind).kids node.kids)
 
 -- the tree at a place has no variable of a space that may change
 abbrev pub StaysIn : (Space → Extent) → List Node → Place → Space → Type 0
@@ -125,79 +113,9 @@ abbrev pub shared_place : (Space → Extent) → List Node → Place → Place
 shared_place reach nodes place =
     place_where reach place (is_past reach nodes place Points) (is_past reach nodes place Terms)
 
--- the places to which the walk goes on from a node at a place
-abbrev pub next_below : (Space → Extent) → List Node → Place → Node → List Place
-next_below reach nodes place node = map (shared_place reach nodes) (places_below place node)
-
--- a place to which the walk goes on from a place where something may change
-pub record IsKid (reach : Space → Extent) (nodes : List Node) (place kid : Place) : Type 0 where
-  pub node : Node
-  pub at : slice_get nodes place.id ≡ Some node
-  pub goes : ¬ (IsBeyond reach nodes place)
-  pub is : Contains (next_below reach nodes place node) kid
-
 -- what becomes of the tree at a place
 abbrev pub answer : Changes → List Node → Place → Tree
 answer changes nodes place = changed changes (depth_of place.depth) (tree_of nodes place.id)
-
--- the place is in the tree, and its answer has no index that is too large
-pub record IsFit (changes : Changes) (nodes : List Node) (place : Place) : Type 0 where
-  pub live : place.id < length nodes
-  pub indices : IndicesBelow (2 ^ 32) (answer changes nodes place)
-
--- each kid of a listed place stands after it, or is settled elsewhere
-abbrev pub AreSettled : (Space → Extent) → List Node → List Place → (Place → Type 0) → Type 0
-AreSettled reach nodes [] Settled = Unit {0}
-AreSettled reach nodes (place ∷ places) Settled =
-    ((kid : Place) → IsKid reach nodes place kid → Contains places kid ⊎ Settled kid)
-    × AreSettled reach nodes places Settled
-
--- the places to which the walk goes on, whatever becomes of what is reached
-pub record AreNext (reach : Space → Extent) (nodes : List Node) (place : Place)
-    (below : List Place) : Type 0 where
-  pub all : (kid : Place) → IsKid reach nodes place kid → Contains below kid
-  pub live : All (λ (kid : Place). kid.id < length nodes) below
-  pub fits : (changes : Changes) → KeepsTo reach changes → IsFit changes nodes place
-      → All (IsFit changes nodes) below
-
--- the place and all places below it to which the walk goes, whatever becomes of what is reached
-pub record ListsPlaces (reach : Space → Extent) (nodes : List Node) (whole : Place)
-    (places : List Place) : Type 0 where
-  pub top : Contains places whole
-  pub settled : AreSettled reach nodes places (λ _. ⊥)
-  pub live : All (λ (place : Place). place.id < length nodes) places
-  pub fits : (changes : Changes) → KeepsTo reach changes
-      → IndicesBelow (2 ^ 32) (answer changes nodes whole) → All (IsFit changes nodes) places
-
--- a set that these places have joined
-pub record Joined (old new : Place → Bool) (places : List Place) : Type 0 where
-  pub kept : (place : Place) → old place ≡ true → new place ≡ true
-  pub added : (place : Place) → Contains places place → new place ≡ true
-  pub only : (place : Place) → new place ≡ true → (old place ≡ true) ⊎ Contains places place
-
--- the new id of a place
-abbrev pub new_id : (Place → Option ℕ) → Place → ℕ
-new_id made place = unwrap_or (made place) 0
-
--- a place has its answer
-pub record IsMade (made : Place → Option ℕ) (changes : Changes) (old new : List Node)
-    (place : Place) : Type 0 where
-  pub live : place.id < length old
-  pub id : ℕ
-  pub at : made place ≡ Some id
-  pub within : id < length new
-  pub tree : tree_of new id ≡ answer changes old place
-
--- some place's answer has an index that is too large
-pub record HasMisfit (changes : Changes) (nodes : List Node) (places : List Place) : Type 0 where
-  pub place : Place
-  pub listed : Contains places place
-  pub large : ¬ (IndicesBelow (2 ^ 32) (answer changes nodes place))
-
--- the id of a tree, or none where an index of the tree is too large
-abbrev pub IsAnswerOf : List Node → Tree → Option ℕ → Type 0
-IsAnswerOf nodes tree (Some id) = (id < length nodes) × (tree_of nodes id ≡ tree)
-IsAnswerOf nodes tree None = ¬ (IndicesBelow (2 ^ 32) tree)
 
 -- what the code answers for a variable
 abbrev pub IsChange : List Node → Change → meanings.Change → Type 0
@@ -265,3 +183,8 @@ KeepsSorts changes =
 -- a value of its sort in a pool
 abbrev pub IsValue : Space → ℕ → List Node → Type 0
 IsValue space value nodes = (value < length nodes) × (sort_of (tree_of nodes value) ≡ sort_in space)
+
+-- the change that a question names
+abbrev pub put_change : Space → Counts → ℕ → VariableChange
+put_change Points at value = PutPoint at value
+put_change Terms at value = PutTerm at value

@@ -5,12 +5,14 @@ ghost use Rattle.rz_rules.specs.Tree.{sort_of, tree_of};
 ghost use Rattle.rz_rules.specs.Substitution.{IndicesBelow, none, only, total, raising, weakened, putting, shift, put, same_space};
 ghost use Rattle.rz_pool.specs.Counts.{depth_of};
 ghost use Rattle.rz_pool.specs.Pool.{Grows, IsPool};
-ghost use Rattle.rz_subst.specs.Walk.{sort_in, raising_extent, putting_extent, raising_reach, putting_reach, IsAnswerOf, IsNewNumber, IsValue};
-ghost use Rattle.rz_subst.specs.Sorts.{KeepsSorts-raising, KeepsSorts-putting, kept-putting};
+ghost use Rattle.rz_pool.specs.declared.questions.VariableChange.TheVariants.{Rise};
+ghost use Rattle.rz_subst.specs.Walk.{sort_in, put_change, raising_extent, putting_extent, raising_reach, putting_reach, IsAnswerOf, IsNewNumber, IsValue};
+ghost use Rattle.rz_subst.specs.Sorts.{KeepsSorts-raising, KeepsSorts-putting, kept-putting, asks-putting};
 ghost use Rattle.rz_subst.specs.Within.{IsWithin-raising, IsWithin-putting, IsSteady-raising, IsSteady-putting, MovesOnlyWith-raising, MovesOnlyWith-putting};
 
-use crate::walk::{Change, Changing, Extent, Reach, rebuild};
-use rz_pool::{Counts, Pool};
+use crate::going::rebuild;
+use crate::walk::{Change, Changing, Extent, Reach};
+use rz_pool::{Counts, Pool, Question, VariableChange};
 use rz_rules::{OutOfMemory, Space};
 use std::alloc::Global;
 
@@ -71,7 +73,11 @@ impl Changing for Raising {
 
     ghost reach = { λ it nodes. raising_reach it.from it.by };
 
+    ghost change = { λ it. Rise it.from it.by };
+
     ghost is_there = { λ it nodes. Unit {0} };
+
+    ghost asks = { λ it nodes there. (tt, refl) };
 
     ghost kept = { λ it old new there grows. (tt, refl, refl) };
 
@@ -87,6 +93,16 @@ impl Changing for Raising {
         Reach {
             points: raising_extent(self.from.points, self.by.points),
             terms: raising_extent(self.from.terms, self.by.terms),
+        }
+    }
+
+    fn question(&self, id: u64) -> Question {
+        Question {
+            id,
+            change: VariableChange::Rise {
+                from: self.from,
+                by: self.by,
+            },
         }
     }
 
@@ -113,7 +129,11 @@ impl Changing for Putting {
 
     ghost reach = { λ it nodes. putting_reach it.space it.at (tree_of nodes it.value) };
 
+    ghost change = { λ it. put_change it.space it.at it.value };
+
     ghost is_there = { λ it nodes. IsValue it.space it.value nodes };
+
+    ghost asks = { λ it nodes there. asks-putting it.space it.at it.value nodes there };
 
     ghost kept = { λ it old new there grows.
         kept-putting it.space it.at it.value old new there grows };
@@ -135,6 +155,17 @@ impl Changing for Putting {
         Reach {
             points: putting_extent(pool, Space::Points, points, self.value),
             terms: putting_extent(pool, Space::Terms, terms, self.value),
+        }
+    }
+
+    fn question(&self, id: u64) -> Question {
+        let (at, value) = (self.at, self.value);
+        Question {
+            id,
+            change: match self.space {
+                Space::Points => VariableChange::PutPoint { at, value },
+                Space::Terms => VariableChange::PutTerm { at, value },
+            },
         }
     }
 

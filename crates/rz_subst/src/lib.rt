@@ -27,7 +27,10 @@ ghost use Rattle.rz_rules.specs.Substitution.{IndicesBelow, none, shift, put};
 ghost use Rattle.rz_pool.specs.Pool.{Grows, IsPool};
 
 mod changes;
+mod going;
 pub mod laws;
+mod made;
+mod tasks;
 mod walk;
 
 pub use changes::{put, shift, weaken};

@@ -1,24 +1,21 @@
-//! The walk over a shared tree, whatever becomes of its variables.
+//! The places of a shared tree, and what becomes of its variables there.
 
-ghost use Rattle.std.specs.Prelude.{◌≡◌, ◌+◌, ◌<◌, ◌≤◌, ◌^◌, ◌↔◌, IsTrue, IfOk, OnOk, IfSome, IfNone, IsSome, All, Contains, List, ℕ, Some, length, map};
-ghost use Rattle.std.specs.BTreeSet.{contains};
-ghost use Rattle.std.specs.HashMap.{get};
+ghost use Rattle.std.specs.Prelude.{◌≡◌, ◌+◌, ◌<◌, ◌^◌, ◌↔◌, IsTrue, IfOk, List, length};
 ghost use Rattle.rz_rules.specs.declared.nodes.Node.{Node};
-ghost use Rattle.rz_rules.specs.Form.{form};
-ghost use Rattle.rz_rules.specs.Tree.{sort_of, tree_of};
-ghost use Rattle.rz_rules.specs.Substitution.{Changes, IndicesBelow, changed, none, only};
+ghost use Rattle.rz_rules.specs.Substitution.{Changes};
+ghost use Rattle.rz_pool.specs.declared.questions.VariableChange.{VariableChange};
+ghost use Rattle.rz_pool.specs.Asking.{NamesNodes, changes_by};
 ghost use Rattle.rz_pool.specs.Counts.{depth_of};
 ghost use Rattle.rz_pool.specs.Pool.{Grows, IsPool};
 ghost use Rattle.rz_subst.specs.declared.walk.Reach.{Reach};
-ghost use Rattle.rz_subst.specs.Walk.{kid_place, kid_places, top_place, next_below, reach_of, is_past, count_where, shared_place, StaysIn, IsBeyond, IsWithin, IsSteady, MovesOnlyWith, answer, IsChange, IsAnswer, IsAnswerOf, FitsChange, KeepsSorts, AreSettled, AreNext, ListsPlaces, HasMisfit, Joined, IsKid, IsMade, new_id};
+ghost use Rattle.rz_subst.specs.Walk.{kid_place, top_place, reach_of, is_past, count_where, shared_place, StaysIn, IsBeyond, IsWithin, IsSteady, MovesOnlyWith, IsAnswer, KeepsSorts};
 
-use rz_pool::{Counts, HashKey, Pool};
-use rz_rules::{Kids, Node, OutOfMemory, Role, Slot, Space};
+use rz_pool::{Counts, Pool, Question};
+use rz_rules::{OutOfMemory, Slot, Space};
 use std::alloc::Global;
-use std::collections::{BTreeSet, HashMap};
 
 /// A node of a tree: its id, and how many variables are bound above it.
-#[derive(Clone, Copy, Debug, PartialEq, Eq, PartialOrd, Ord, Hash)]
+#[derive(Clone, Copy, Debug, PartialEq, Eq, Hash)]
 pub struct Place {
     pub id: u64,
     pub depth: Counts,
@@ -80,7 +77,7 @@ impl Place {
     }
 
     /// A kid of the node here.
-    fn kid(self, slot: Slot, kid: u64) -> Result<Place, OutOfMemory>
+    pub fn kid(self, slot: Slot, kid: u64) -> Result<Place, OutOfMemory>
         ensures { IfOk result (λ place. place ≡ kid_place self slot kid) }
     {
         Ok(Place {
@@ -90,50 +87,6 @@ impl Place {
                 terms: deeper(self.depth.terms, slot.terms)?,
             },
         })
-    }
-
-    /// The places whose answers serve for the kids of this node here.
-    fn kids(
-        self,
-        alloc: Global,
-        pool: &Pool,
-        reach: Reach,
-        slots: &[Slot],
-        kids: &[u64],
-    ) -> Result<Vec<Place>, OutOfMemory>
-        requires slots { length kids.now ≡ length slots.now }
-        requires live { All (λ kid. kid < length pool.now.nodes) kids.now }
-        ensures { IfOk result (λ places. places.items
-            ≡ map (shared_place (reach_of reach) pool.now.nodes)
-            (kid_places self slots.now kids.now)) }
-    {
-        let mut places = Vec::new(alloc);
-        for i in 0..kids.len() {
-            let kid = self.kid(slots[i], kids[i])?;
-            places.push(shared(pool, reach, kid))?;
-        }
-        Ok(places)
-    }
-
-    /// The places to which the walk goes on from this node here.
-    fn below(
-        self,
-        alloc: Global,
-        pool: &Pool,
-        reach: Reach,
-        node: &Node,
-    ) -> Result<Vec<Place>, OutOfMemory>
-        requires slots { length node.now.kids ≡ length (form node.now.kind).kids }
-        requires live { All (λ kid. kid < length pool.now.nodes) node.now.kids }
-        ensures below { IfOk result (λ places. places.items
-            ≡ next_below (reach_of reach) pool.now.nodes self node.now) }
-        ensures few { IfOk result (λ places. length places.items ≤ 7) }
-    {
-        let form = node.kind.form();
-        match form.role {
-            Role::Former => self.kids(alloc, pool, reach, form.kids, node.kids.as_slice()),
-            Role::Variable(_) | Role::Declared => Ok(Vec::new(alloc)),
-        }
     }
 }
 
@@ -160,7 +113,7 @@ fn count_where(moves: bool, past: bool, others: bool, count: u64) -> u64
 }
 
 /// The place whose answer serves for a place.
-fn shared(pool: &Pool, reach: Reach, place: Place) -> Place
+pub fn shared(pool: &Pool, reach: Reach, place: Place) -> Place
     requires { place.id < length pool.now.nodes }
     ensures { result ≡ shared_place (reach_of reach) pool.now.nodes place }
 {
@@ -173,17 +126,6 @@ fn shared(pool: &Pool, reach: Reach, place: Place) -> Place
             terms: count_where(reach.terms.moves, terms, points, place.depth.terms),
         },
     }
-}
-
-/// Adds places to those that wait.
-fn add_all(waiting: &mut BTreeSet<Place>, places: &[Place]) -> Result<(), OutOfMemory>
-    ensures { OnOk result (Joined (contains ⟦<Place as Ord>⟧.cmp waiting.old)
-        (contains ⟦<Place as Ord>⟧.cmp waiting.new) places.now) }
-{
-    for place in places {
-        waiting.insert(*place)?;
-    }
-    Ok(())
 }
 
 /// Whether no variable of a space in the tree at a place may change.
@@ -200,7 +142,7 @@ fn stays_in(pool: &Pool, reach: Reach, place: Place, space: Space) -> bool
 }
 
 /// Whether no variable in the tree at a place may change.
-fn is_beyond(pool: &Pool, reach: Reach, place: Place) -> bool
+pub fn is_beyond(pool: &Pool, reach: Reach, place: Place) -> bool
     requires { place.id < length pool.now.nodes }
     ensures beyond { IsTrue result ↔ IsBeyond (reach_of reach) pool.now.nodes place }
     ensures pool { IsPool pool.now.nodes }
@@ -210,57 +152,13 @@ fn is_beyond(pool: &Pool, reach: Reach, place: Place) -> bool
     points && terms
 }
 
-/// The places to which the walk goes on from a place: none where nothing changes.
-fn next_places(
-    alloc: Global,
-    pool: &Pool,
-    reach: Reach,
-    place: Place,
-) -> Result<Vec<Place>, OutOfMemory>
-    requires { place.id < length pool.now.nodes }
-    ensures { IfOk result (λ places. AreNext (reach_of reach) pool.now.nodes place places.items) }
-{
-    if is_beyond(pool, reach, place) {
-        return Ok(Vec::new(alloc));
-    }
-    place.below(alloc, pool, reach, pool.node(place.id))
-}
-
-/// The whole tree of an id and all places below it to which the walk goes, the greatest ids first.
-fn places(alloc: Global, pool: &Pool, reach: Reach, id: u64) -> Result<Vec<Place>, OutOfMemory>
-    requires { id < length pool.now.nodes }
-    ensures { IfOk result (λ places.
-        ListsPlaces (reach_of reach) pool.now.nodes (top_place id) places.items) }
-{
-    let mut waiting = BTreeSet::new(alloc);
-    waiting.insert(Place::top(id))?;
-    let mut places = Vec::new(alloc);
-    while let Some(place) = waiting.pop_last() {
-        let below = next_places(alloc, pool, reach, place)?;
-        add_all(&mut waiting, &below)?;
-        places.push(place)?;
-    }
-    Ok(places)
-}
-
-/// The new ids of these places, each of which has one.
-fn made_kids(places: &[Place], made: &HashMap<Place, u64, HashKey>) -> Kids
-    requires few { length places.now ≤ 7 }
-    requires made { All (λ kid. IsSome (get ⟦<Place as PartialEq>⟧.eq made.now kid)) places.now }
-    ensures { result ≡ map (new_id (get ⟦<Place as PartialEq>⟧.eq made.now)) places.now }
-{
-    let mut kids = Kids::new();
-    for place in places {
-        kids.push(made[place]);
-    }
-    kids
-}
-
 /// What becomes of each variable.
 pub trait Changing {
     ghost changes: { Self → List Node → Changes };
 
     ghost reach: { Self → List Node → Reach };
+
+    ghost change: { Self → VariableChange };
 
     /// What it names is in the pool, and has its sort.
     ghost is_there: { Self → List Node → Type 0 };
@@ -269,6 +167,11 @@ pub trait Changing {
     fn reach(&self, pool: &Pool) -> Reach
         requires { is_there self.now pool.now.nodes }
         ensures { result ≡ reach self.now pool.now.nodes };
+
+    /// Which tree comes of the tree of an id, as a question to a pool.
+    fn question(&self, id: u64) -> Question
+        ensures id { result.id ≡ id }
+        ensures change { result.change ≡ change self.now };
 
     /// What becomes of a variable of a space with this number, which stands at a depth; `None`
     /// where an index would be too large.
@@ -294,6 +197,11 @@ pub trait Changing {
         × (changes self new ≡ changes self old)
         × (reach self new ≡ reach self old) };
 
+    /// The question says what becomes of each variable.
+    ghost asks: { (self : Self) (nodes : List Node) → is_there self nodes
+        → NamesNodes nodes (change self)
+        × (changes_by nodes (change self) ≡ changes self nodes) };
+
     /// Only trees of its sort take the place of a variable.
     ghost sorts: { (self : Self) (nodes : List Node) → is_there self nodes
         → KeepsSorts (changes self nodes) };
@@ -309,110 +217,4 @@ pub trait Changing {
     /// Values move only with the spaces of which that is told.
     ghost moves: { (self : Self) (nodes : List Node)
         → MovesOnlyWith (reach_of (reach self nodes)) (changes self nodes) };
-}
-
-/// The id of what becomes of the tree at a place, each kid of which has its new id; `None` where an
-/// index would be too large.
-fn make_at<C: Changing>(
-    alloc: Global,
-    pool: &mut Pool,
-    changing: &C,
-    place: Place,
-    made: &HashMap<Place, u64, HashKey>,
-) -> Result<Option<u64>, OutOfMemory>
-    requires there { C.is_there changing.now pool.old.nodes }
-    requires live { place.id < length pool.old.nodes }
-    requires pool { IsPool pool.old.nodes }
-    requires kids { (kid : _) → IsKid (reach_of (C.reach changing.now pool.old.nodes))
-        pool.old.nodes place kid
-        → IsMade (get ⟦<Place as PartialEq>⟧.eq made.now)
-        (C.changes changing.now pool.old.nodes) pool.old.nodes pool.old.nodes kid }
-    ensures answer { IfOk result (IsAnswerOf pool.new.nodes
-        (answer (C.changes changing.now pool.old.nodes) pool.old.nodes place)) }
-    ensures grows { Grows pool.old.nodes pool.new.nodes }
-    ensures pool { IsPool pool.new.nodes }
-{
-    let reach = changing.reach(pool);
-    if is_beyond(pool, reach, place) {
-        return Ok(Some(place.id));
-    }
-    let node = pool.node(place.id);
-    match node.kind.form().role {
-        Role::Variable(space) => {
-            let mut node = node.copy()?;
-            match changing.variable(alloc, pool, space, place.depth, node.number)? {
-                None => Ok(None),
-                Some(Change::Renumbered(number)) => {
-                    node.number = number;
-                    Ok(Some(pool.make(node)?))
-                }
-                Some(Change::Replaced(id)) => Ok(Some(id)),
-            }
-        }
-        Role::Declared => Ok(Some(place.id)),
-        Role::Former => {
-            let below = place.below(alloc, pool, reach, node)?;
-            let mut node = node.copy()?;
-            node.kids = made_kids(&below, made);
-            Ok(Some(pool.make(node)?))
-        }
-    }
-}
-
-/// The new ids of the listed places; `None` where an index would be too large.
-fn make_all<C: Changing>(
-    alloc: Global,
-    pool: &mut Pool,
-    changing: &C,
-    mut places: Vec<Place>,
-) -> Result<Option<HashMap<Place, u64, HashKey>>, OutOfMemory>
-    requires there { C.is_there changing.now pool.old.nodes }
-    requires settled { AreSettled (reach_of (C.reach changing.now pool.old.nodes))
-        pool.old.nodes places.items (λ _. ⊥) }
-    requires live { All (λ place. place.id < length pool.old.nodes) places.items }
-    requires pool { IsPool pool.old.nodes }
-    ensures made { IfOk result (λ made. IfSome made (λ made.
-        (place : _) → Contains places.items place
-        → IsMade (get ⟦<Place as PartialEq>⟧.eq made)
-        (C.changes changing.now pool.old.nodes) pool.old.nodes pool.new.nodes place)) }
-    ensures none { IfOk result (λ made. IfNone made (HasMisfit
-        (C.changes changing.now pool.old.nodes) pool.old.nodes places.items)) }
-    ensures grows { Grows pool.old.nodes pool.new.nodes }
-    ensures pool { IsPool pool.new.nodes }
-{
-    let mut made = HashMap::with_hasher(alloc, pool.hash_key());
-    while let Some(place) = places.pop() {
-        match make_at(alloc, pool, changing, place, &made)? {
-            Some(new) => {
-                made.insert(place, new)?;
-            }
-            None => return Ok(None),
-        }
-    }
-    Ok(Some(made))
-}
-
-/// The id of what becomes of a tree; `None` where an index would be too large.
-pub fn rebuild<C: Changing>(
-    alloc: Global,
-    pool: &mut Pool,
-    changing: &C,
-    id: u64,
-) -> Result<Option<u64>, OutOfMemory>
-    requires live { id < length pool.old.nodes }
-    requires there { C.is_there changing.now pool.old.nodes }
-    ensures answer { IfOk result (IsAnswerOf pool.new.nodes
-        (changed (C.changes changing.now pool.old.nodes) none (tree_of pool.old.nodes id))) }
-    ensures grows { Grows pool.old.nodes pool.new.nodes }
-    ensures pool { IsPool pool.new.nodes }
-{
-    let reach = changing.reach(pool);
-    if is_beyond(pool, reach, Place::top(id)) {
-        return Ok(Some(id));
-    }
-    let places = places(alloc, pool, reach, id)?;
-    match make_all(alloc, pool, changing, places)? {
-        Some(made) => Ok(Some(made[&Place::top(id)])),
-        None => Ok(None),
-    }
 }

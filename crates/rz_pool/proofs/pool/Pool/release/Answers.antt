@@ -1,14 +1,16 @@
 use Rattle.std.proofs.Common.{take, ap, sym, subst, ◌∙◌}
-use Rattle.std.specs.Map.{keys_of, values_of}
-use Rattle.rz_pool.specs.Pool.{Contents, IsPool}
-use Rattle.rz_pool.specs.Free.{HaveSpans}
-use Rattle.rz_pool.proofs.Sets.{Entries, keys-take, IsKept-take}
+use Rattle.std.specs.Map.{keys_of}
+use Rattle.rz_pool.specs.Kept.{pairs_of}
+use Rattle.rz_pool.specs.Pool.{Contents}
+use Rattle.rz_pool.proofs.Asking.{AreRight-nothing}
+use Rattle.rz_pool.proofs.Sets.{Entries, Holds, keys-take, IsKept-take}
 use Rattle.rz_pool.proofs.pool.Pool.release.Goals as goal
 
 pub invariant_of-self : goal.invariant_of-self
 invariant_of-self c =
-    subst (λ (es : Entries). IsPool (keys_of es) × HaveSpans (keys_of es) (values_of es)) (sym c.truncate.ensures.entries)
-    (IsKept-take c.self.inside.nodes.entries _ c.self.invariant)
+    let fewer = IsKept-take c.self.inside.nodes.entries c.args.mark (c.self.invariant.0, c.self.invariant.1) in
+    subst (λ (es : Entries). Holds es (pairs_of c.clear.new.self.table)) (sym c.truncate.ensures.entries)
+    (fewer.0, fewer.1, AreRight-nothing (keys_of (take c.args.mark c.self.inside.nodes.entries)) (pairs_of c.clear.new.self.table) c.clear.ensures)
 
 pub returns-clause-nodes : goal.returns-clause-nodes
 returns-clause-nodes c =
