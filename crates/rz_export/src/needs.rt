@@ -1,15 +1,12 @@
 //! The nodes that lines need.
 
-ghost use Rattle.std.specs.Prelude.{ℕ, ◌<◌, ◌≡◌, ◌||◌, ◌↔◌, length, All, Contains, IfOk, OnOk};
-ghost use Rattle.std.specs.BTreeSet.{contains};
-ghost use Rattle.std.specs.Ordering.{nat_cmp, eq_by_cmp};
-ghost use Rattle.std.specs.List.{list_any};
+ghost use Rattle.std.specs.Prelude.{ℕ, ◌<◌, ◌≡◌, ◌↔◌, length, All, Contains, IfOk};
 ghost use Rattle.rz_log.specs.Reachable.{IsRising};
 ghost use Rattle.rz_log.specs.World.{IsSound};
 ghost use Rattle.rz_export.specs.Needs.{IsNeeded, names_at};
 
 use rz_log::{Log, World};
-use rz_pool::Pool;
+use rz_pool::{Pool, add_all};
 use rz_rules::{Numbers, OutOfMemory};
 use std::alloc::Global;
 use std::collections::{BTreeSet, VecDeque};
@@ -26,17 +23,6 @@ fn named_ids(alloc: Global, log: &Log, steps: &[u64]) -> Result<Numbers, OutOfMe
         ids.extend_from_slice(says.parts().as_slice())?;
     }
     Ok(ids)
-}
-
-/// Adds ids to those that wait.
-fn add_all(waiting: &mut BTreeSet<u64>, ids: &[u64]) -> Result<(), OutOfMemory>
-    ensures { OnOk result ((id : ℕ) → contains nat_cmp waiting.new id
-        ≡ (contains nat_cmp waiting.old id || list_any (eq_by_cmp nat_cmp id) ids.now)) }
-{
-    for id in ids {
-        waiting.insert(*id)?;
-    }
-    Ok(())
 }
 
 /// These ids and those of their trees' parts, each once, rising.

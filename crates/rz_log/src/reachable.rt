@@ -1,26 +1,13 @@
 //! What steps rest on.
 
-ghost use Rattle.std.specs.Prelude.{ℕ, ◌<◌, ◌≡◌, ◌||◌, ◌↔◌, length, All, Contains, IfOk, OnOk};
-ghost use Rattle.std.specs.BTreeSet.{contains};
-ghost use Rattle.std.specs.Ordering.{nat_cmp, eq_by_cmp};
-ghost use Rattle.std.specs.List.{list_any};
+ghost use Rattle.std.specs.Prelude.{ℕ, ◌<◌, ◌↔◌, length, All, Contains, IfOk};
 ghost use Rattle.rz_log.specs.Reachable.{IsReachable, IsRising};
 
 use crate::log::Log;
+use rz_pool::add_all;
 use rz_rules::{Numbers, OutOfMemory};
 use std::alloc::Global;
 use std::collections::{BTreeSet, VecDeque};
-
-/// Adds steps to those that wait.
-fn add_all(waiting: &mut BTreeSet<u64>, steps: &[u64]) -> Result<(), OutOfMemory>
-    ensures { OnOk result ((step : ℕ) → contains nat_cmp waiting.new step
-        ≡ (contains nat_cmp waiting.old step || list_any (eq_by_cmp nat_cmp step) steps.now)) }
-{
-    for step in steps {
-        waiting.insert(*step)?;
-    }
-    Ok(())
-}
 
 impl Log {
     /// The steps on which these rest, themselves among them, rising.

@@ -194,6 +194,9 @@ impl Pool {
         ensures spare { self.old.spare ≤ self.new.spare }
         ensures pool { IsPool self.new.nodes }
     {
+        if self.len() <= mark {
+            return;
+        }
         self.kept.clear();
         self.nodes.truncate(mark as usize);
     }

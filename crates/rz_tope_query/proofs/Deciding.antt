@@ -1,5 +1,5 @@
 -- What is answered of a question.
-use Rattle.std.proofs.Common.{subst}
+use Rattle.std.proofs.Common.{ℕ, subst}
 use Rattle.rz_rules.specs.Structural.{formed}
 use Rattle.rz_rules.specs.Tree.{Tree}
 use Rattle.rz_log.specs.declared.entail.Entailed.{Entailed}

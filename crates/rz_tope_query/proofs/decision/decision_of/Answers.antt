@@ -3,11 +3,10 @@ use Rattle.std.specs.Prelude.{codes}
 use Rattle.rz_rules.specs.Cube.{binders_of}
 use Rattle.rz_rules.specs.File.{IsFile}
 use Rattle.rz_rules.specs.Judgment.{Statement}
-use Rattle.rz_rules.specs.Structural.{formed, holds}
+use Rattle.rz_rules.specs.Structural.{holds}
 use Rattle.rz_rules.specs.Tope.{IsTopeOver}
 use Rattle.rz_rules.specs.Tree.{Tree, tree_of}
 use Rattle.rz_log.specs.Entail.{IsEntailed}
-use Rattle.rz_log.specs.World.{Says}
 use Rattle.rz_log.proofs.Entailing.{of_no, of_silent, of_yes}
 use Rattle.rz_log.proofs.Saying.{context_is, said_within, statement_is}
 use Rattle.rz_tope_query.proofs.Deciding.{entailed_in}
