@@ -121,12 +121,14 @@ fn check_all(
     steps: &[&str],
     changes: &'static [Change],
 ) -> Result<(), Fail> {
-    let mut derivation = Derivation {
-        nodes: Nodes::new(alloc)?,
-        steps: Vec::new(alloc),
+    let mut nodes = Nodes::new(alloc)?;
+    let mut lines = Vec::new(alloc);
+    read_steps(alloc, &mut nodes, &mut lines, steps)?;
+    let others = others(alloc, &mut nodes, changes)?;
+    let derivation = Derivation {
+        nodes,
+        steps: lines,
     };
-    read_steps(alloc, &mut derivation.nodes, &mut derivation.steps, steps)?;
-    let others = others(alloc, &mut derivation.nodes, changes)?;
     assert_accepted(rt, alloc, &derivation)?;
     for other in &others {
         assert_refused(rt, alloc, &derivation, other)?;
