@@ -8,7 +8,7 @@ use Rattle.rz_tope_query.specs.Sequent.{IsNoSequent, SaysSequent, Sequent}
 use Rattle.rz_tope_query.specs.Decision.{IsDecided, IsDecisionOf}
 use Rattle.rz_app.specs.Command.{AsksAbout, Command, IsNoCommand, Kernel, Tope, files_of}
 use Rattle.rz_app.specs.Answer.{AnswersCommand, HasFewCoordinates, TopeWrites, Writes, WritesUsage, decision_status}
-use Rattle.rz_app.specs.Fault.{CannotRead, Composes}
+use Rattle.rz_app.specs.Fault.{Composes}
 
 -- a text says one sequent
 abbrev pub OneSequent : Type 0
